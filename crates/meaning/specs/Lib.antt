@@ -1,0 +1,9 @@
+pub mod Base
+pub mod Text
+pub mod Ast
+pub mod Errors
+pub mod Budget
+pub mod Map
+pub mod Subst
+pub mod Unify
+pub mod Plain

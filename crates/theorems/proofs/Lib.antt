@@ -1,0 +1,4 @@
+pub mod Says
+pub mod Tests
+pub mod Fills
+pub mod Maps
