@@ -7,3 +7,13 @@ pub mod Map
 pub mod Subst
 pub mod Unify
 pub mod Plain
+pub mod Classes
+pub mod Reduce
+pub mod Cores
+pub mod Generalize
+pub mod Infer
+pub mod Declare
+pub mod Session
+pub mod Listing
+pub mod Derives
+pub mod Select

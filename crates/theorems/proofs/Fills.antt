@@ -8,6 +8,7 @@ use Rattle.meaning.specs.Base.{yes?}
 use Rattle.meaning.specs.Ast.{TyVar, same-tyvar, Ty, Tys, var, con, arrow, nil, _◂_, count-tys, size, sizes}
 use Rattle.meaning.specs.Subst.{occurs, occurs-in}
 use Rattle.meaning.specs.Plain.{Fill, sub, subs}
+use Rattle.theorems.proofs.Types.{heads, tails, con-args, arrow-left, arrow-right}
 use Rattle.theorems.proofs.Tests.{yes?-true, yes?-false, yes?-of, or-cases, or-false-left, or-false-right}
 
 mutual
@@ -62,25 +63,12 @@ mutual
   -- And two maps that do the same to a type agree on its variables.
   pub sub-same : (θ τ : Fill) (t : Ty) → sub θ t ≡ sub τ t → (x : TyVar) → occurs x t ≡ true → θ x ≡ τ x
   sub-same θ τ (var y) e x o = let p : x ≡ y = yes?-true (same-tyvar x y) o in rw p e
-  sub-same θ τ (con c ts) e x o = subs-same θ τ ts (con-args c c (subs θ ts) (subs τ ts) e) x o
-    where
-      con-args : (c d : _) (xs ys : Tys) → con c xs ≡ con d ys → xs ≡ ys
-      con-args c d xs ys e = cc
-  sub-same θ τ (arrow a b) e x o = or-cases (occurs x a) (occurs x b) o (θ x ≡ τ x) (λ f. sub-same θ τ a (left (sub θ a) (sub θ b) (sub τ a) (sub τ b) e) x f) (λ f. sub-same θ τ b (right (sub θ a) (sub θ b) (sub τ a) (sub τ b) e) x f)
-    where
-      left : (a b c d : Ty) → arrow a b ≡ arrow c d → a ≡ c
-      left a b c d e = cc
-      right : (a b c d : Ty) → arrow a b ≡ arrow c d → b ≡ d
-      right a b c d e = cc
+  sub-same θ τ (con c ts) e x o = subs-same θ τ ts (con-args _ _ _ _ e) x o
+  sub-same θ τ (arrow a b) e x o = or-cases (occurs x a) (occurs x b) o (θ x ≡ τ x) (λ f. sub-same θ τ a (arrow-left _ _ _ _ e) x f) (λ f. sub-same θ τ b (arrow-right _ _ _ _ e) x f)
 
   pub subs-same : (θ τ : Fill) (ts : Tys) → subs θ ts ≡ subs τ ts → (x : TyVar) → occurs-in x ts ≡ true → θ x ≡ τ x
   subs-same θ τ nil e x o = absurd (false≢true o)
-  subs-same θ τ (t ◂ ts) e x o = or-cases (occurs x t) (occurs-in x ts) o (θ x ≡ τ x) (λ f. sub-same θ τ t (left (sub θ t) (sub τ t) (subs θ ts) (subs τ ts) e) x f) (λ f. subs-same θ τ ts (right (sub θ t) (sub τ t) (subs θ ts) (subs τ ts) e) x f)
-    where
-      left : (a b : Ty) (as₀ bs : Tys) → a ◂ as₀ ≡ b ◂ bs → a ≡ b
-      left a b as₀ bs e = cc
-      right : (a b : Ty) (as₀ bs : Tys) → a ◂ as₀ ≡ b ◂ bs → as₀ ≡ bs
-      right a b as₀ bs e = cc
+  subs-same θ τ (t ◂ ts) e x o = or-cases (occurs x t) (occurs-in x ts) o (θ x ≡ τ x) (λ f. sub-same θ τ t (heads _ _ _ _ e) x f) (λ f. subs-same θ τ ts (tails _ _ _ _ e) x f)
 
 mutual
   unfolding sub occurs size

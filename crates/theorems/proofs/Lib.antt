@@ -1,4 +1,17 @@
 pub mod Says
 pub mod Tests
+pub mod Types
 pub mod Fills
 pub mod Maps
+pub mod Looks
+pub mod Applied
+pub mod Unified
+pub mod UnifyRefuses
+pub mod Joins
+pub mod Matched
+pub mod MatchCost
+pub mod Ordered
+pub mod ByteOrder
+pub mod UnifyOrdered
+pub mod Steady
+pub mod Sound
