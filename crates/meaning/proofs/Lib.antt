@@ -1,0 +1,6 @@
+pub mod Metered
+pub mod Written
+pub mod Starred
+pub mod Worked
+pub mod Corners
+pub mod Fields
