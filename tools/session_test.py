@@ -1,17 +1,18 @@
 #!/usr/bin/env python3
-"""session_test.py [--budget N] [--work N] [--binders N] NAME.ses.. : a computed test of each session file.
+"""session_test.py NAME.ses [BUDGET WORK BINDERS]: a computed test of a session file, on standard output.
+session_test.py --all: writes crates/sessions/proofs from recorded/index.txt.
 
-Prints, for each file, declarations in antt and the statement that they compute to the text that stands beside it in
-NAME.out (as the reference's listing prints it with its step columns). The file must be a good one: reading it with its
-refusals is another definition's work."""
-import argparse, os, re, struct, sys
+A test is the file's declarations in antt, and the statement that they compute to the text that stands beside the file
+in NAME.out (as the reference's listing prints it with its step columns). The file must be a good one: reading it with
+its refusals is another definition's work."""
+import os, re, struct, sys
 
 HEAD = """-- Recorded sessions, computed: text, steps, kept nodes and both counters. (tools/session_test.py)
 use mathlib.Core.Path.{_≡_, refl}
 use mathlib.Core.Bool.{true, false}
 use mathlib.Core.List.{List, [], _∷_}
 use Rattle.meaning.specs.Ast.{Ty, arrow, Expr, eint, ebool, eapp, Decl, nil, _◂_}
-use Rattle.meaning.proofs.Metered.{metered, said}
+use Rattle.meaning.proofs.Metered.{everything, metered, said}
 use Rattle.meaning.proofs.Written.{v, c, ev, lam, bind, class, instance, define, check, at, sig, body}
 """
 
@@ -96,27 +97,34 @@ def declarations(data):
     return out
 
 
-def test(path, budget, work, binders):
+def test(path, budget="512", work="65536", binders="512"):
     tag = re.sub(r"[^A-Za-z0-9]+", "-", os.path.basename(path)[:-4])
     with open(path, "rb") as f:
-        decls = declarations(f.read())
+        body = "\n    ∷ ".join(declarations(f.read()) + ["[]"])
     with open(path[:-4] + ".out", encoding="utf-8") as f:
         expected = f.read().replace("\n", "\\n")
-    lines = "".join(f"    {d}\n    ∷ " for d in decls).rstrip(" ∷") if decls else ""
-    body = "\n    ∷ ".join(decls + ["[]"])
     return (f"\nabbrev {tag} : List Decl\n{tag} =\n    {body}\n"
-            f"\n{tag}-computed : metered {budget} {work} {binders} {tag} ≡ said \"{expected}\"\nunfolding metered said\n{tag}-computed = refl\n")
+            f"\n{tag}-computed : metered {budget} {work} {binders} {tag} ≡ said \"{expected}\"\n"
+            f"unfolding everything metered said\n{tag}-computed = refl\n")
 
 
-def main():
-    p = argparse.ArgumentParser()
-    p.add_argument("--budget", default="512")
-    p.add_argument("--work", default="65536")
-    p.add_argument("--binders", default="512")
-    p.add_argument("files", nargs="+")
-    a = p.parse_args()
-    sys.stdout.write(HEAD + "".join(test(f, a.budget, a.work, a.binders) for f in a.files))
+def write_all():
+    root = os.path.dirname(os.path.dirname(os.path.abspath(__file__)))
+    modules = {}
+    for line in open(os.path.join(root, "recorded/index.txt"), encoding="utf-8"):
+        if line.strip() and not line.startswith("#"):
+            module, name, *sizes = line.split()
+            modules.setdefault(module, []).append(test(os.path.join(root, "recorded", name + ".ses"), *sizes))
+    proofs = os.path.join(root, "crates/sessions/proofs")
+    for module, tests in modules.items():
+        with open(os.path.join(proofs, module + ".antt"), "w", encoding="utf-8") as f:
+            f.write(HEAD + "".join(tests))
+    with open(os.path.join(proofs, "Lib.antt"), "w", encoding="utf-8") as f:
+        f.write("".join(f"pub mod {m}\n" for m in modules))
 
 
 if __name__ == "__main__":
-    main()
+    if sys.argv[1:] == ["--all"]:
+        write_all()
+    else:
+        sys.stdout.write(HEAD + test(*sys.argv[1:]))

@@ -1,0 +1,15 @@
+pub mod Hand1
+pub mod Hand2
+pub mod Hand3
+pub mod Hand4
+pub mod Large1
+pub mod Random1
+pub mod Random2
+pub mod Random3
+pub mod Random4
+pub mod Random5
+pub mod Random6
+pub mod Narrow1
+pub mod Budget1
+pub mod Budget2
+pub mod Random7
