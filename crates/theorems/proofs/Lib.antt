@@ -34,3 +34,12 @@ pub mod Accepted
 pub mod Grown
 pub mod Reaches
 pub mod Demand3
+pub mod Spends
+pub mod Falls
+pub mod FallsInfer
+pub mod FallsDeclare
+pub mod Gives
+pub mod Renamed
+pub mod Nodes
+pub mod Paid
+pub mod Kept
