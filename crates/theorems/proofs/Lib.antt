@@ -43,3 +43,10 @@ pub mod Renamed
 pub mod Nodes
 pub mod Paid
 pub mod Kept
+pub mod FreeVars
+pub mod Stays
+pub mod Stands
+pub mod Declared
+pub mod Generalized
+pub mod Closed
+pub mod Theorems
