@@ -8,21 +8,21 @@ use Rattle.meaning.specs.Ast.{Name, name, TyVar, named, fresh}
 use Rattle.names.specs.declared.Kind.{Kind}
 use Rattle.names.specs.declared.Kind.the-variants.{Node, Named, Fresh, Nullary}
 
--- Words below this one are nodes of the table.
-abbrev pub first-named : ℕ
-first-named = 2_305_843_009_213_693_952
-
--- From here on made variables, `t` and a number.
+-- Words below this one are variables by their name's number. From here on made variables, `t` and a number.
 abbrev pub first-fresh : ℕ
-first-fresh = 4_611_686_018_427_387_904
+first-fresh = 2_305_843_009_213_693_952
 
--- From here on constructors without arguments, by their name.
+-- From here on constructors without arguments, by their name's number.
 abbrev pub first-nullary : ℕ
-first-nullary = 9_223_372_036_854_775_808
+first-nullary = 4_611_686_018_427_387_904
+
+-- From here on nodes of the table: a node's word lies above all words that name no node.
+abbrev pub first-node : ℕ
+first-node = 9_223_372_036_854_775_808
 
 -- What a type's word says.
 unfoldable pub kindOf : ℕ → Kind
-kindOf t = if (ltb t first-named) (Node t) (if (ltb t first-fresh) (Named (t - first-named)) (if (ltb t first-nullary) (Fresh (t - first-fresh)) (Nullary (t - first-nullary))))
+kindOf t = if (ltb t first-fresh) (Named t) (if (ltb t first-nullary) (Fresh (t - first-fresh)) (if (ltb t first-node) (Nullary (t - first-nullary)) (Node (t - first-node))))
 
 -- A name is four words, its 32 bytes with the first one highest.
 unfoldable pub row : List ℕ → ℕ → ℕ
