@@ -50,3 +50,6 @@ pub mod Declared
 pub mod Generalized
 pub mod Closed
 pub mod Theorems
+pub mod Running
+pub mod Premises
+pub mod ReplacedOnce
