@@ -1,0 +1,145 @@
+// Substitutions as pairs on the stack, applied to types: `apply_type` of 002.
+use ast::Cell;
+use ast::Shape;
+use errors::Refusal;
+ghost use mathlib.Core.Path.{_≡_};
+ghost use mathlib.Core.List.{_++_};
+ghost use Prim.Native.Nat.{ℕ, _+_, _*_, _-_, _<_, _≤_};
+ghost use lib.ListN.{length};
+ghost use Rattle.meaning.specs.Subst.{apply-in, each};
+ghost use Rattle.ast.specs.Table.{tree, list};
+ghost use Rattle.apply.specs.Region.{subAt, findAt, Ready, Gives};
+
+// What a substitution has for a variable.
+pub enum Found {
+    At(usize),
+    Nothing,
+}
+
+// A type's word, the first free node and the steps left; or a refusal with the same two.
+pub enum Applied {
+    Done(usize, usize, usize),
+    Refused(Refusal, usize, usize),
+}
+
+// The type that the k pairs from at have for the variable of word x.
+pub fn find(base: &[u64], work: &[u64], at: usize, k: usize, x: usize) -> Found
+    requires { ⌜ at + 2 * k ≤ length (now base ++ now work) ⌝ }
+    ensures { λ r. ⌜ r ≡ findAt (now (base .entry) ++ now (work .entry)) at k x ⌝ }
+{
+    let mut i = at;
+    let mut j = k;
+    while j > 0 {
+        let y = ast::index(base, work, i);
+        if y == x {
+            return Found::At(ast::index(base, work, i + 1));
+        }
+        i += 2;
+        j -= 1;
+    }
+    Found::Nothing
+}
+
+// The k pairs from at applied to the type t: `apply_type` with so much depth left.
+pub fn apply(
+    base: &[u64],
+    work: &mut [u64],
+    names: &[u64],
+    top: usize,
+    left: usize,
+    depth: usize,
+    at: usize,
+    k: usize,
+    t: usize,
+) -> Applied
+    requires { ⌜ length (now base) ≤ 4 * top ⌝ }
+    requires { ⌜ Ready (now names) (now base ++ now work) top left at k t ⌝ }
+    ensures { λ r. ⌜ Gives (tree (now (names .entry)) (now (base .entry) ++ now (work .exit))) (4 * top + 8 * left - 4) (now (names .entry))
+        (now (base .entry) ++ now (work .entry)) (now (base .entry) ++ now (work .exit)) top left
+        (apply-in depth (subAt (now (names .entry)) (now (base .entry) ++ now (work .entry)) at k) (tree (now (names .entry)) (now (base .entry) ++ now (work .entry)) t) left) r ⌝ }
+{
+    if depth == 0 {
+        return Applied::Refused(Refusal::Depth, top, left);
+    }
+    if left == 0 {
+        return Applied::Refused(Refusal::Steps, top, 0);
+    }
+    let d = depth - 1;
+    let l = left - 1;
+    let s = ast::shape_at(base, work, t);
+    match s {
+        Shape::Var(x) => {
+            let f = find(base, work, at, k, x);
+            match f {
+                Found::At(m) => Applied::Done(m, top, l),
+                Found::Nothing => Applied::Done(x, top, l),
+            }
+        }
+        Shape::Con(c, b) => {
+            let r = args(base, work, names, top, l, d, at, k, b);
+            match r {
+                Applied::Done(m, t2, l2) => {
+                    ast::push(base, work, t2, 1, c, m);
+                    Applied::Done(names::NODE + t2, t2 + 1, l2)
+                }
+                Applied::Refused(e, t2, l2) => Applied::Refused(e, t2, l2),
+            }
+        }
+        Shape::Arrow(a, b) => {
+            let r = apply(base, work, names, top, l, d, at, k, a);
+            match r {
+                Applied::Done(m, t2, l2) => {
+                    let q = apply(base, work, names, t2, l2, d, at, k, b);
+                    match q {
+                        Applied::Done(m2, t3, l3) => {
+                            ast::push(base, work, t3, 2, m, m2);
+                            Applied::Done(names::NODE + t3, t3 + 1, l3)
+                        }
+                        Applied::Refused(e, t3, l3) => Applied::Refused(e, t3, l3),
+                    }
+                }
+                Applied::Refused(e, t2, l2) => Applied::Refused(e, t2, l2),
+            }
+        }
+    }
+}
+
+// The k pairs from at applied to each type of the list n, left to right.
+pub fn args(
+    base: &[u64],
+    work: &mut [u64],
+    names: &[u64],
+    top: usize,
+    left: usize,
+    depth: usize,
+    at: usize,
+    k: usize,
+    n: usize,
+) -> Applied
+    requires { ⌜ length (now base) ≤ 4 * top ⌝ }
+    requires { ⌜ Ready (now names) (now base ++ now work) top left at k n ⌝ }
+    ensures { λ r. ⌜ Gives (list (now (names .entry)) (now (base .entry) ++ now (work .exit))) (4 * top + 8 * left) (now (names .entry))
+        (now (base .entry) ++ now (work .entry)) (now (base .entry) ++ now (work .exit)) top left
+        (each (apply-in depth (subAt (now (names .entry)) (now (base .entry) ++ now (work .entry)) at k)) (list (now (names .entry)) (now (base .entry) ++ now (work .entry)) n) left) r ⌝ }
+{
+    let c = ast::cell_at(base, work, n);
+    match c {
+        Cell::Nil => Applied::Done(n, top, left),
+        Cell::Cons(a, b) => {
+            let r = apply(base, work, names, top, left, depth, at, k, a);
+            match r {
+                Applied::Done(m, t2, l2) => {
+                    let q = args(base, work, names, t2, l2, depth, at, k, b);
+                    match q {
+                        Applied::Done(m2, t3, l3) => {
+                            ast::push(base, work, t3, 3, m, m2);
+                            Applied::Done(names::NODE + t3, t3 + 1, l3)
+                        }
+                        Applied::Refused(e, t3, l3) => Applied::Refused(e, t3, l3),
+                    }
+                }
+                Applied::Refused(e, t2, l2) => Applied::Refused(e, t2, l2),
+            }
+        }
+    }
+}
