@@ -76,6 +76,9 @@ pub fn apply(
             }
         }
         Shape::Con(c, b) => {
+            if b == ast::NIL {
+                return Applied::Done(t, top, l);
+            }
             let r = args(base, work, names, top, l, d, at, k, b);
             match r {
                 Applied::Done(m, t2, l2) => {
