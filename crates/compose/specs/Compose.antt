@@ -8,12 +8,15 @@ use lib.ListN.{length, getD}
 use Rattle.meaning.specs.Ast.{TyVar, Ty}
 use Rattle.meaning.specs.Budget.{Out, done, refused}
 use Rattle.meaning.specs.Map.{tyvars, get, insert}
-use Rattle.meaning.specs.Subst.{Subst}
+use Rattle.meaning.specs.Errors.{unification-failure}
+use Rattle.meaning.specs.Subst.{Subst, agree}
 use Rattle.theorems.proofs.Ordered.{Sorted}
 use Rattle.names.specs.Names.{Names, tyvarOf}
 use Rattle.ast.specs.Table.{tree, Table, Kept, Node}
 use Rattle.errors.specs.Refusals.{Refuses}
 use Rattle.apply.specs.Region.{subAt, Below, Sub, Stands}
+use Rattle.compose.specs.declared.Agreed.{Agreed}
+use Rattle.compose.specs.declared.Agreed.the-variants.{All, Clash}
 use Rattle.apply.specs.declared.Applied.{Applied}
 use Rattle.apply.specs.declared.Applied.the-variants.{Done, Refused}
 
@@ -73,6 +76,22 @@ pub record Both (ns w : List ℕ) (top left lo k₂ k₁ : ℕ) : Type 0 where
   pub other : Sub w top (lo + 2 * k₂) k₁
   pub self-sorted : Sorted tyvars (subAt ns w lo k₂)
   pub other-sorted : Sorted tyvars (subAt ns w (lo + 2 * k₂) k₁)
+
+-- The same two regions, in any order, with nothing asked of the room.
+pub record Regions (ns w : List ℕ) (top lo k₂ k₁ : ℕ) : Type 0 where
+  pub names : Names ns
+  pub table : Table w top
+  pub self : Sub w top lo k₂
+  pub other : Sub w top (lo + 2 * k₂) k₁
+
+-- What the comparison of the later region with the first one says: `agree` of the meaning, whatever the steps.
+abbrev pub AgreesAs : List ℕ → List ℕ → ℕ → ℕ → ℕ → ℕ → Agreed → Type 0
+AgreesAs ns w top lo k₂ k₁ All = (left : ℕ) → agree (subAt ns w (lo + 2 * k₂) k₁) (subAt ns w lo k₂) left ≡ done tt left
+AgreesAs ns w top lo k₂ k₁ (Clash v u) = Node w top v × Node w top u
+    × ((left : ℕ) → agree (subAt ns w (lo + 2 * k₂) k₁) (subAt ns w lo k₂) left ≡ refused (unification-failure (tree ns w v) (tree ns w u)) left)
+
+pub record Agrees (ns w : List ℕ) (top lo k₂ k₁ : ℕ) (r : Agreed) : Type 0 where
+  pub says : AgreesAs ns w top lo k₂ k₁ r
 
 -- Both regions became one of r pairs, which ends where they ended.
 pub record Merged (ns w w′ : List ℕ) (lo k₂ k₁ r : ℕ) : Type 0 where

@@ -9,7 +9,7 @@ ghost use lib.ListN.{length, set};
 ghost use Rattle.meaning.specs.Subst.{apply-values, compose, merge};
 ghost use Rattle.names.specs.Names.{Names};
 ghost use Rattle.apply.specs.Region.{subAt};
-ghost use Rattle.compose.specs.Compose.{Place, Shifted, Opened, Added, Both, Merged, Swept, GivesSub};
+ghost use Rattle.compose.specs.Compose.{Place, Shifted, Opened, Added, Both, Merged, Swept, GivesSub, Regions, Agrees};
 
 // Writes a word of the lent buffer, by its place among all words.
 pub fn put(base: &[u64], work: &mut [u64], i: usize, v: usize)
@@ -168,3 +168,59 @@ pub fn compose_in(
     }
 }
 
+
+// Whether two substitutions agree, or two types of one variable that differ.
+pub enum Agreed {
+    All,
+    Clash(usize, usize),
+}
+
+// The k1 pairs that stand after the k2 pairs from lo, against these, in their order.
+fn agree(base: &[u64], work: &[u64], names: &[u64], top: usize, lo: usize, k2: usize, k1: usize) -> Agreed
+    requires { ⌜ Regions (now names) (now base ++ now work) top lo k2 k1 ⌝ }
+    ensures { λ r. ⌜ Agrees (now (names .entry)) (now (base .entry) ++ now (work .entry)) top lo k2 k1 r ⌝ }
+{
+    let at = lo + 2 * k2;
+    let mut i: usize = 0;
+    while i < k1 {
+        let x = ast::index(base, work, at + 2 * i);
+        let v = ast::index(base, work, at + 2 * i + 1);
+        let f = apply::find(base, work, lo, k2, x);
+        match f {
+            Found::At(u) => {
+                if !ast::same(base, work, names, top, v, u) {
+                    return Agreed::Clash(v, u);
+                }
+            }
+            Found::Nothing => {}
+        }
+        i += 1;
+    }
+    Agreed::All
+}
+
+// `self.merge(other)`: self is the k1 pairs that stand after the k2 pairs from lo, which are other; in their place.
+pub fn merge_pairs(
+    base: &[u64],
+    work: &mut [u64],
+    names: &[u64],
+    top: usize,
+    left: usize,
+    lo: usize,
+    k2: usize,
+    k1: usize,
+) -> Applied
+    requires { ⌜ length (now base) ≤ 4 * top ⌝ }
+    requires { ⌜ Both (now names) (now base ++ now work) top left lo k2 k1 ⌝ }
+    ensures { λ r. ⌜ GivesSub (4 * top + 8 * left + 2 * k2 + 2 * k1) (now (names .entry)) (now (base .entry) ++ now (work .entry)) (now (base .entry) ++ now (work .exit)) top left (lo + 2 * k2 + 2 * k1)
+        (merge (subAt (now (names .entry)) (now (base .entry) ++ now (work .entry)) (lo + 2 * k2) k1) (subAt (now (names .entry)) (now (base .entry) ++ now (work .entry)) lo k2) left) r ⌝ }
+{
+    let a = agree(base, work, names, top, lo, k2, k1);
+    match a {
+        Agreed::All => {
+            let c = merge_in(base, work, names, lo, k2, k1);
+            Applied::Done(c, top, left)
+        }
+        Agreed::Clash(v, u) => Applied::Refused(Refusal::UnificationFailure(v, u), top, left),
+    }
+}
