@@ -35,10 +35,10 @@ nameOf ns i = if (ltb (4 * i + 3) (length ns)) (name (row ns i)) (name (2 ^ 256 
 
 -- The variable that a kind of word stands for; one that stands for none still has a name of its own.
 abbrev pub variableOf : List ℕ → Kind → TyVar
-variableOf ns (Node n) = named (name (2 ^ 257 + n))
+variableOf ns (Node n) = named (name (2 ^ 258 + n))
 variableOf ns (Named i) = named (nameOf ns i)
 variableOf ns (Fresh k) = fresh k
-variableOf ns (Nullary i) = named (name (2 ^ 258 + i))
+variableOf ns (Nullary i) = named (name (2 ^ 257 + i))
 
 -- The variable that a word stands for.
 unfoldable pub tyvarOf : List ℕ → ℕ → TyVar
