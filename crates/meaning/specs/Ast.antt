@@ -94,10 +94,11 @@ mutual
 unfoldable pub same-ty : (a b : Ty) → Dec (a ≡ b)
 same-ty a b = ty-discrete same-tyvar same-name a b
 
--- Type::int and Type::bool.
+-- `Type::int`.
 unfoldable pub int : Ty
 int = con (called "Int") nil
 
+-- `Type::bool`.
 unfoldable pub bool : Ty
 bool = con (called "Bool") nil
 
@@ -122,6 +123,7 @@ pub record Pred : Type 0 where
   pub class : Name
   pub ty : Ty
 
+-- A predicate from its parts.
 abbrev pub pred : Name → Ty → Pred
 pred c u = record { class = c; ty = u }
 
@@ -140,6 +142,7 @@ pub record Qual : Type 0 where
   pub preds : List Pred
   pub ty : Ty
 
+-- A qualified type from its parts.
 abbrev pub qual : List Pred → Ty → Qual
 qual ps u = record { preds = ps; ty = u }
 
@@ -148,6 +151,7 @@ pub record Scheme : Type 0 where
   pub vars : List TyVar
   pub qual : Qual
 
+-- A scheme from its parts.
 abbrev pub forall : List TyVar → Qual → Scheme
 forall vs q = record { vars = vs; qual = q }
 
@@ -185,6 +189,7 @@ mutual
     cnil : Cores
     _◃_ : Core → Cores → Cores
 
+-- A class: its superclasses, the types of its methods, and terms for methods that an instance leaves out.
 pub record ClassDecl : Type 0 where
   pub name : Name
   pub tyvar : TyVar
@@ -192,6 +197,7 @@ pub record ClassDecl : Type 0 where
   pub sigs : List (Name × Ty)
   pub defaults : List (Name × Expr)
 
+-- An instance: what it asks, what it is an instance of, and its methods.
 pub record InstanceDecl : Type 0 where
   pub context : List Pred
   pub head : Pred

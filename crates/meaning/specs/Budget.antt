@@ -19,6 +19,7 @@ unfoldable pub after : {A B : Type 0} → Out A → (A → Steps B) → Out B
 after (done a n) f = f a n
 after (refused r n) f = refused r n
 
+-- Two computations one after the other.
 abbrev pub _>>=_ : {A B : Type 0} → Steps A → (A → Steps B) → Steps B
 _>>=_ m f = λ n. after (m n) f
 
@@ -49,6 +50,7 @@ unfoldable pub settled : {A : Type 0} → Out A → Out (Option A)
 settled (done a n) = done (some a) n
 settled (refused r n) = if (added r) (refused r n) (done none n)
 
+-- The same of a computation.
 abbrev pub attempt : {A : Type 0} → Steps A → Steps (Option A)
 attempt m = λ n. settled (m n)
 

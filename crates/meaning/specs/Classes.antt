@@ -19,6 +19,7 @@ Given = Core × Pred
 abbrev pub ClassInfo : Type 0
 ClassInfo = ClassDecl
 
+-- An accepted instance: the fields of its dictionary are its methods, its defaults and its superclasses' dictionaries.
 pub record InstanceInfo : Type 0 where
   pub context : List Pred
   pub head : Pred
@@ -125,6 +126,7 @@ by-super-in zero ce hit e p = refuse too-deep
 by-super-in (suc k) ce hit e p =
     step (if (hit e p) (pure (some e)) (by-supers (λ e₁ p₁. by-super-in k ce hit e₁ p₁) e p (supers-of (class-of ce (p .class)))))
 
+-- `by_super`, searched.
 abbrev pub by-super : ClassEnv → (Core → Pred → Bool) → Core → Pred → Steps (Option Core)
 by-super ce hit e p = by-super-in depth ce hit e p
 

@@ -54,6 +54,7 @@ unfoldable pub fill-alias : Binder → Pending → Map DictName Core → Map Dic
 fill-alias b [] m = m
 fill-alias b (c ∷ cs) m = fill-alias b cs (if (yes? (same-pred (c .1) (b .1)) && not (yes? (same-dict (c .0) (b .0)))) (insert dicts (c .0, cdict (b .0)) m) m)
 
+-- For each binder.
 unfoldable pub fill-aliases : List Binder → Pending → Map DictName Core → Map DictName Core
 fill-aliases [] ps m = m
 fill-aliases (b ∷ bs) ps m = fill-aliases bs ps (fill-alias b ps m)

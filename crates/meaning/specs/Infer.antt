@@ -23,9 +23,11 @@ pub record State : Type 0 where
 abbrev pub Run : Type 0 → Type 0
 Run A = State → Steps (A × State)
 
+-- Two of them one after the other; the second starts in the state that the first left.
 abbrev pub _>>=_ : {A B : Type 0} → Run A → (A → Run B) → Run B
 _>>=_ m f = λ st n. after (m st n) (λ r. f (r .0) (r .1))
 
+-- An answer that leaves the state.
 abbrev pub pure : {A : Type 0} → A → Run A
 pure a = λ st n. done (a, st) n
 
@@ -37,6 +39,7 @@ lift m = λ st n. after (m n) (λ a. done (a, st))
 abbrev pub ask-env : Run Env
 ask-env = λ st n. done (st .env, st) n
 
+-- The state with another environment.
 unfoldable pub with-env : Env → State → State
 with-env env st = record { env = env; tv-counter = st .tv-counter; dv-counter = st .dv-counter }
 

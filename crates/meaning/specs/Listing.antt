@@ -13,18 +13,22 @@ use Rattle.meaning.specs.Session.{Result, accepted, scheme-of, typed, re
 unfoldable pub show-nat : ℕ → Text
 show-nat n cs = decimal 30 n cs
 
+-- A name is its bytes.
 unfoldable pub show-name : Name → Text
 show-name (name n) cs = unpacked 32 n cs
 
+-- A made variable is `t` and its number.
 unfoldable pub show-tyvar : TyVar → Text
 show-tyvar (named x) cs = show-name x cs
 show-tyvar (fresh n) cs = quoted "t" (show-nat n cs)
 
+-- A dictionary's name as the Rust writes it.
 unfoldable pub show-dict-name : DictName → Text
 show-dict-name (dvar n) cs = quoted "d" (show-nat n cs)
 show-dict-name (ctx c i) cs = quoted "d_ctx_" (show-name c (quoted "_" (show-nat i cs)))
 show-dict-name self cs = quoted "self" cs
 
+-- A method's name, or `__super_CLASS__SUPER`.
 unfoldable pub show-field : Field → Text
 show-field (method m) cs = show-name m cs
 show-field (super c s) cs = quoted "__super_" (show-name c (quoted "__" (show-name s cs)))
@@ -34,6 +38,7 @@ unfoldable pub bracket : String → Tys → Text
 bracket b nil cs = cs
 bracket b (a ◂ ts) cs = quoted b cs
 
+-- Types, and lists of them with a blank before each.
 unfoldable mutual
   pub show-ty : Ty → Text
   show-ty (var x) cs = show-tyvar x cs
@@ -44,6 +49,7 @@ unfoldable mutual
   show-tys nil cs = cs
   show-tys (a ◂ ts) cs = quoted " " (show-ty a (show-tys ts cs))
 
+-- A predicate is its class and its type.
 unfoldable pub show-pred : Pred → Text
 show-pred p cs = show-name (p .class) (quoted " " (show-ty (p .ty) cs))
 
@@ -57,13 +63,16 @@ unfoldable pub show-list : {A : Type 0} → (A → Text) → List A → Text
 show-list f [] cs = quoted "[]" cs
 show-list f (a ∷ rest) cs = quoted "[" (f a (show-rest f rest cs))
 
+-- A binder is its name and its predicate.
 unfoldable pub show-binder : Binder → Text
 show-binder b cs = show-dict-name (b .0) (quoted " " (show-pred (b .1) cs))
 
+-- Booleans.
 unfoldable pub show-bool : Bool → Text
 show-bool true cs = quoted "true" cs
 show-bool false cs = quoted "false" cs
 
+-- Core terms, and lists of them with a blank before each.
 unfoldable mutual
   pub show-core : Core → Text
   show-core (cvar x) cs = show-name x cs
@@ -82,9 +91,11 @@ unfoldable mutual
   show-cores cnil cs = cs
   show-cores (e ◃ es) cs = quoted " " (show-core e (show-cores es cs))
 
+-- Predicates in square brackets, then the type.
 unfoldable pub show-qual : Qual → Text
 show-qual q cs = show-list show-pred (q .preds) (quoted " " (show-ty (q .ty) cs))
 
+-- A field of a refusal.
 unfoldable pub show-value : Value → Text
 show-value (a-number n) cs = show-nat n cs
 show-value (a-name x) cs = show-name x cs

@@ -11,10 +11,11 @@ pub record Keys (K : Type 0) : Type 0 where
   pub same : (x y : K) → Dec (x ≡ y)
   pub before : K → K → Bool
 
--- Names and type variables in byte order.
+-- Names in byte order.
 abbrev pub names : Keys Name
 names = record { same = same-name; before = name-before }
 
+-- Type variables, likewise.
 abbrev pub tyvars : Keys TyVar
 tyvars = record { same = same-tyvar; before = tyvar-before }
 
@@ -26,6 +27,7 @@ dicts = record { same = same-dict; before = λ x y. false }
 abbrev pub is : {K : Type 0} → Keys K → K → K → Bool
 is k x y = yes? (k .same x y)
 
+-- A map: the type of the keys, and that of what they lead to.
 abbrev pub Map : Type 0 → Type 0 → Type 0
 Map K A = List (K × A)
 

@@ -27,5 +27,6 @@ filled s t = sub (look s) t
 abbrev pub sub-pred : Fill → Pred → Pred
 sub-pred θ p = pred (p .class) (sub θ (p .ty))
 
+-- A list of predicates, likewise.
 abbrev pub sub-preds : Fill → List Pred → List Pred
 sub-preds θ ps = map (sub-pred θ) ps

@@ -17,6 +17,7 @@ pub record Checker : Type 0 where
   pub state : State
   pub class-env : ClassEnv
 
+-- Two numbers to something.
 abbrev int-int : Ty → Ty
 int-int u = arrow int (arrow int u)
 
