@@ -2,42 +2,20 @@
 use ast::Cell;
 use ast::Shape;
 use errors::Refusal;
+use pairs::Found;
 ghost use mathlib.Core.Path.{_≡_};
 ghost use mathlib.Core.List.{_++_};
 ghost use Prim.Native.Nat.{ℕ, _+_, _*_, _-_, _<_, _≤_};
 ghost use lib.ListN.{length};
 ghost use Rattle.meaning.specs.Subst.{apply-in, each};
 ghost use Rattle.ast.specs.Table.{tree, list};
-ghost use Rattle.apply.specs.Region.{subAt, findAt, Ready, Gives};
-
-// What a substitution has for a variable.
-pub enum Found {
-    At(usize),
-    Nothing,
-}
+ghost use Rattle.pairs.specs.Pairs.{subAt};
+ghost use Rattle.apply.specs.Region.{Ready, Gives};
 
 // A type's word, the first free node and the steps left; or a refusal with the same two.
 pub enum Applied {
     Done(usize, usize, usize),
     Refused(Refusal, usize, usize),
-}
-
-// The type that the k pairs from at have for the variable of word x.
-pub fn find(base: &[u64], work: &[u64], at: usize, k: usize, x: usize) -> Found
-    requires { ⌜ at + 2 * k ≤ length (now base ++ now work) ⌝ }
-    ensures { λ r. ⌜ r ≡ findAt (now (base .entry) ++ now (work .entry)) at k x ⌝ }
-{
-    let mut i = at;
-    let mut j = k;
-    while j > 0 {
-        let y = ast::index(base, work, i);
-        if y == x {
-            return Found::At(ast::index(base, work, i + 1));
-        }
-        i += 2;
-        j -= 1;
-    }
-    Found::Nothing
 }
 
 // The k pairs from at applied to the type t: `apply_type` with so much depth left.
@@ -69,7 +47,7 @@ pub fn apply(
     let s = ast::shape_at(base, work, t);
     match s {
         Shape::Var(x) => {
-            let f = find(base, work, at, k, x);
+            let f = pairs::find(base, work, at, k, x);
             match f {
                 Found::At(m) => Applied::Done(m, top, l),
                 Found::Nothing => Applied::Done(x, top, l),

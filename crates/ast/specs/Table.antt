@@ -5,7 +5,7 @@ use mathlib.Core.List.{List}
 use mathlib.Core.Bool.{Bool, true, false}
 use Prim.Native.Nat.{ℕ, zero, suc, _+_, _*_, _-_, _<_, _≤_}
 use lib.ListN.{length, getD, set}
-use Rattle.meaning.specs.Ast.{Ty, Tys, var, con, arrow, nil, _◂_, count-tys}
+use Rattle.meaning.specs.Ast.{called, Ty, Tys, var, con, arrow, nil, _◂_, count-tys}
 use Rattle.names.specs.Names.{first-node, first-nullary, kindOf, nameOf, tyvarOf}
 use Rattle.names.specs.declared.Kind.{Kind}
 use Rattle.names.specs.declared.Kind.the-variants.{Node as A-Node, Named, Fresh, Nullary}
@@ -111,9 +111,19 @@ pushed w top tag a b = set (set (set w (4 * top) tag) (4 * top + 1) a) (4 * top 
 -- How many types a list's word stands for; no more than its node's number and one.
 pub record Counted (ns w : List ℕ) (l r : ℕ) : Type 0 where
   pub is : r ≡ count-tys (list ns w l)
-  pub most : r ≤ l
+  pub most : r ≤ l + 1 - first-node
 
 -- The answer says whether two lists of types are equal.
 abbrev pub SameTys : Tys → Tys → Bool → Type 0
 SameTys xs ys true = xs ≡ ys
 SameTys xs ys false = xs ≡ ys → ⊥
+
+-- A table of names that begins with those of the two built-in types.
+pub record BuiltIn (ns : List ℕ) : Type 0 where
+  pub int-name : nameOf ns 0 ≡ called "Int"
+  pub bool-name : nameOf ns 1 ≡ called "Bool"
+
+-- The word t is no node, and stands for the type u over any words.
+pub record Stands (t : ℕ) (u : Ty) : Type 0 where
+  pub low : t < first-node
+  pub is : (ns w : List ℕ) → BuiltIn ns → tree ns w t ≡ u

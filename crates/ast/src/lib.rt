@@ -1,14 +1,14 @@
 // Types as words over a closed table and the lent buffer behind it, in which a table of nodes grows from below.
 use names::Kind;
 ghost use mathlib.Core.Path.{_≡_};
-ghost use mathlib.Core.List.{_++_};
+ghost use mathlib.Core.List.{List, _++_};
 ghost use Prim.Native.Nat.{ℕ, _+_, _*_, _<_, _≤_};
 ghost use lib.ListN.{length, getD};
 ghost use Rattle.meaning.specs.Base.{yes?};
-ghost use Rattle.meaning.specs.Ast.{same-ty};
+ghost use Rattle.meaning.specs.Ast.{same-ty, int, bool};
 ghost use Rattle.meaning.specs.Subst.{occurs, occurs-in};
 ghost use Rattle.names.specs.Names.{Names, tyvarOf, first-node};
-ghost use Rattle.ast.specs.Table.{shape, cell, shapeOf, cellOf, tree, list, Node, pushed, Counted, SameTys};
+ghost use Rattle.ast.specs.Table.{shape, cell, shapeOf, cellOf, tree, list, Node, pushed, Counted, SameTys, Stands};
 
 // What a type is: a variable by its word, a constructor's name with the list of its arguments, an arrow.
 pub enum Shape {
@@ -25,6 +25,36 @@ pub enum Cell {
 
 // The empty list of types.
 pub const NIL: usize = 0;
+
+// The numbers of the names of the two built-in types.
+pub const INT: usize = 0;
+
+pub const BOOL: usize = 1;
+
+// A type by its word.
+pub struct Type {
+    pub word: usize,
+}
+
+impl Type {
+    // The built-in type of whole numbers.
+    pub fn int() -> Type
+        ensures { λ r. ⌜ Stands (r .word) int ⌝ }
+    {
+        Type {
+            word: names::NULLARY + INT,
+        }
+    }
+
+    // The built-in type of truth values.
+    pub fn bool() -> Type
+        ensures { λ r. ⌜ Stands (r .word) bool ⌝ }
+    {
+        Type {
+            word: names::NULLARY + BOOL,
+        }
+    }
+}
 
 // A word of the two tables.
 pub fn get(base: &[u64], work: &[u64], i: usize) -> u64
@@ -121,7 +151,7 @@ pub fn push(base: &[u64], work: &mut [u64], top: usize, tag: u64, a: usize, b: u
 // How many types the list l has.
 pub fn count_list(base: &[u64], work: &[u64], top: usize, l: usize) -> usize
     requires { ⌜ Node (now base ++ now work) top l ⌝ }
-    ensures { λ r. ⌜ (ns : mathlib.Core.List.List ℕ) → Counted ns (now (base .entry) ++ now (work .entry)) l r ⌝ }
+    ensures { λ r. ⌜ ((ns : List ℕ) → Counted ns (now (base .entry) ++ now (work .entry)) l r) ⌝ }
 {
     let c = cell_at(base, work, l);
     match c {

@@ -10,7 +10,7 @@ use Rattle.theorems.proofs.Ordered.{Sorted}
 use Rattle.names.specs.Names.{Names}
 use Rattle.ast.specs.Table.{Table, Node}
 use Rattle.errors.specs.Refusals.{Refuses}
-use Rattle.apply.specs.Region.{subAt, Sub, Stands}
+use Rattle.pairs.specs.Pairs.{subAt, Sub, Stands}
 use Rattle.apply.specs.declared.Applied.{Applied}
 use Rattle.apply.specs.declared.Applied.the-variants.{Done, Refused}
 

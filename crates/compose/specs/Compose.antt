@@ -14,7 +14,7 @@ use Rattle.theorems.proofs.Ordered.{Sorted}
 use Rattle.names.specs.Names.{Names, tyvarOf}
 use Rattle.ast.specs.Table.{tree, Table, Kept, Node}
 use Rattle.errors.specs.Refusals.{Refuses}
-use Rattle.apply.specs.Region.{subAt, Below, Sub, Stands}
+use Rattle.pairs.specs.Pairs.{subAt, Below, Sub, Stands}
 use Rattle.compose.specs.declared.Agreed.{Agreed}
 use Rattle.compose.specs.declared.Agreed.the-variants.{All, Clash}
 use Rattle.apply.specs.declared.Applied.{Applied}

@@ -1,25 +1,15 @@
 // Two substitutions side by side on the stack become one, in place: `compose` and `merge` of 002.
 use apply::Applied;
-use apply::Found;
 use errors::Refusal;
+use pairs::Found;
 ghost use mathlib.Core.Path.{_≡_};
 ghost use mathlib.Core.List.{_++_};
 ghost use Prim.Native.Nat.{ℕ, _+_, _*_, _-_, _<_, _≤_};
-ghost use lib.ListN.{length, set};
+ghost use lib.ListN.{length};
 ghost use Rattle.meaning.specs.Subst.{apply-values, compose, merge};
 ghost use Rattle.names.specs.Names.{Names};
-ghost use Rattle.apply.specs.Region.{subAt};
+ghost use Rattle.pairs.specs.Pairs.{subAt};
 ghost use Rattle.compose.specs.Compose.{Place, Shifted, Opened, Added, Both, Merged, Swept, GivesSub, Regions, Agrees};
-
-// Writes a word of the lent buffer, by its place among all words.
-pub fn put(base: &[u64], work: &mut [u64], i: usize, v: usize)
-    requires { ⌜ length (now base) ≤ i ⌝ }
-    requires { ⌜ i < length (now base ++ now work) ⌝ }
-    ensures { λ _. ⌜ now (base .entry) ++ now (work .exit) ≡ set (now (base .entry) ++ now (work .entry)) i v ⌝ }
-{
-    let j = i - base.len();
-    work[j] = v as u64;
-}
 
 // How many of the k pairs from at come before a new pair of the variable x.
 fn place(base: &[u64], work: &[u64], names: &[u64], at: usize, k: usize, x: usize) -> usize
@@ -48,7 +38,7 @@ fn shift(base: &[u64], work: &mut [u64], to: usize, end: usize)
     let mut i = to;
     while i + 2 < end {
         let v = ast::index(base, work, i + 2);
-        put(base, work, i, v);
+        pairs::put(base, work, i, v);
         i += 1;
     }
 }
@@ -63,8 +53,8 @@ fn insert(base: &[u64], work: &mut [u64], names: &[u64], to: usize, k: usize, x:
     let j = place(base, work, names, to + 2, k, x);
     let i = to + 2 * j;
     shift(base, work, to, i + 2);
-    put(base, work, i, x);
-    put(base, work, i + 1, t);
+    pairs::put(base, work, i, x);
+    pairs::put(base, work, i + 1, t);
 }
 
 // Adds the pair x, t to the c pairs that end at hi, if they have not the variable x; how many there are then.
@@ -75,7 +65,7 @@ fn add(base: &[u64], work: &mut [u64], names: &[u64], hi: usize, c: usize, x: us
     ensures { λ r. ⌜ Added (now (names .entry)) (now (base .entry) ++ now (work .entry)) (now (base .entry) ++ now (work .exit)) hi c x t r ⌝ }
 {
     let at = hi - 2 * c;
-    let f = apply::find(base, work, at, c, x);
+    let f = pairs::find(base, work, at, c, x);
     match f {
         Found::At(_) => c,
         Found::Nothing => {
@@ -131,7 +121,7 @@ fn sweep(
         let r = apply::apply(base, work, names, t, l, 256, lo, k2, n);
         match r {
             Applied::Done(m, t2, l2) => {
-                put(base, work, p, m);
+                pairs::put(base, work, p, m);
                 t = t2;
                 l = l2;
             }
@@ -185,7 +175,7 @@ fn agree(base: &[u64], work: &[u64], names: &[u64], top: usize, lo: usize, k2: u
     while i < k1 {
         let x = ast::index(base, work, at + 2 * i);
         let v = ast::index(base, work, at + 2 * i + 1);
-        let f = apply::find(base, work, lo, k2, x);
+        let f = pairs::find(base, work, lo, k2, x);
         match f {
             Found::At(u) => {
                 if !ast::same(base, work, names, top, v, u) {

@@ -11,7 +11,7 @@ ghost use Rattle.meaning.specs.Ast.{pred};
 ghost use Rattle.meaning.specs.Unify as U;
 ghost use Rattle.names.specs.Names.{nameOf};
 ghost use Rattle.ast.specs.Table.{tree, list};
-ghost use Rattle.apply.specs.Region.{subAt};
+ghost use Rattle.pairs.specs.Pairs.{subAt};
 ghost use Rattle.compose.specs.Answers.{GivesU, ReadyU, ReadyOne, ReadyArrow};
 ghost use Rattle.matching.specs.Match.{match-one, match-arrow, Shapes, Classes};
 
@@ -105,8 +105,8 @@ pub fn match_ty(base: &[u64], work: &mut [u64], names: &[u64], top: usize, left:
     let q = ast::shape_at(base, work, t);
     match p {
         Shape::Var(x) => {
-            compose::put(base, work, sp - 2, x);
-            compose::put(base, work, sp - 1, t);
+            pairs::put(base, work, sp - 2, x);
+            pairs::put(base, work, sp - 1, t);
             Applied::Done(1, top, l)
         }
         Shape::Con(c, xs) => match q {

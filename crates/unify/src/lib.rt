@@ -11,7 +11,7 @@ ghost use Rattle.meaning.specs.Subst as S;
 ghost use Rattle.meaning.specs.Unify as U;
 ghost use Rattle.names.specs.Names.{nameOf, tyvarOf};
 ghost use Rattle.ast.specs.Table.{tree, list};
-ghost use Rattle.apply.specs.Region.{subAt};
+ghost use Rattle.pairs.specs.Pairs.{subAt};
 ghost use Rattle.compose.specs.Answers.{GivesU, ReadyU, ReadyOne, ReadyArrow, ReadyJoin};
 ghost use Rattle.unify.specs.Unify.{apply-two, unify-one, Binds, GivesTwo};
 
@@ -31,8 +31,8 @@ fn bind_other(base: &[u64], work: &mut [u64], names: &[u64], top: usize, left: u
     if ast::occurs_in(base, work, names, top, v, t) {
         return Applied::Refused(Refusal::OccursCheck(v, t), top, left);
     }
-    compose::put(base, work, sp - 2, v);
-    compose::put(base, work, sp - 1, t);
+    pairs::put(base, work, sp - 2, v);
+    pairs::put(base, work, sp - 1, t);
     Applied::Done(1, top, left)
 }
 
