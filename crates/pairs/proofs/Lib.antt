@@ -1,0 +1,3 @@
+-- What the proofs of `find` and of callers use.
+pub mod Looks
+pub mod Frames
