@@ -1,0 +1,5 @@
+pub mod Hand
+pub mod Pairs
+pub mod Steps
+pub mod Heads
+pub mod Ways
