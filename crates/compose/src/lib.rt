@@ -58,7 +58,15 @@ fn insert(base: &[u64], work: &mut [u64], names: &[u64], to: usize, k: usize, x:
 }
 
 // Adds the pair x, t to the c pairs that end at hi, if they have not the variable x; how many there are then.
-fn add(base: &[u64], work: &mut [u64], names: &[u64], hi: usize, c: usize, x: usize, t: usize) -> usize
+fn add(
+    base: &[u64],
+    work: &mut [u64],
+    names: &[u64],
+    hi: usize,
+    c: usize,
+    x: usize,
+    t: usize,
+) -> usize
     requires { ⌜ Names (now names) ⌝ }
     requires { ⌜ length (now base) + 2 * c + 2 ≤ hi ⌝ }
     requires { ⌜ hi ≤ length (now base ++ now work) ⌝ }
@@ -158,7 +166,6 @@ pub fn compose_in(
     }
 }
 
-
 // Whether two substitutions agree, or two types of one variable that differ.
 pub enum Agreed {
     All,
@@ -166,7 +173,15 @@ pub enum Agreed {
 }
 
 // The k1 pairs that stand after the k2 pairs from lo, against these, in their order.
-fn agree(base: &[u64], work: &[u64], names: &[u64], top: usize, lo: usize, k2: usize, k1: usize) -> Agreed
+fn agree(
+    base: &[u64],
+    work: &[u64],
+    names: &[u64],
+    top: usize,
+    lo: usize,
+    k2: usize,
+    k1: usize,
+) -> Agreed
     requires { ⌜ Regions (now names) (now base ++ now work) top lo k2 k1 ⌝ }
     ensures { λ r. ⌜ Agrees (now (names .entry)) (now (base .entry) ++ now (work .entry)) top lo k2 k1 r ⌝ }
 {
