@@ -15,18 +15,19 @@ use Rattle.meaning.specs.Classes.{ClassEnv}
 use Rattle.meaning.specs.Cores.{canonical-renamer}
 use Rattle.meaning.specs.Generalize.{Pending, generalize-binding}
 use Rattle.meaning.specs.Infer.{State, Run, _>>=_, pure, lift, ask-env, with-env, fresh-tyvar, fresh-dictvar, env-insert, env-restore, apply-schemes, apply-env, fresh-all, instantiate-preds, instantiate, Inferred, mono, infer-var, infer-abs, infer-app, infer-let, infer-node, infer-in}
-use Rattle.theorems.proofs.Says.{Says, Any, weaken}
+use Rattle.theorems.proofs.Says.{Says, Any, weaken, anything}
 use Rattle.theorems.proofs.Maps.{get-insert-same, get-insert-other}
 use Rattle.theorems.proofs.Applied.{apply-says, pred-says}
 use Rattle.theorems.proofs.FreeVars.{occurs-preds}
 use Rattle.theorems.proofs.Generalized.{sub-occurs}
-use Rattle.theorems.proofs.Runs.{Nothing, says-anything, or-refuse-says}
+use Rattle.theorems.proofs.Runs.{Nothing, or-refuse-says}
 use Rattle.theorems.proofs.Twins.{Both, alone, both-then}
 use Rattle.theorems.proofs.Made.{IsMade, MadeTy, MadePending, MadeSubst, MadeScheme, MadeAt, MadeEnv, made-var, made-arrow, made-int, made-bool, made-append, made-empty, apply-made, pending-made, compose-made, unify-made}
 use Rattle.theorems.proofs.MadeSchemes.{unbound-made, mono-made, apply-schemes-made, insert-made, remove-made}
 use Rattle.theorems.proofs.OtherNames.{Renamer}
 use Rattle.theorems.proofs.OtherRuns.{infer-let-by, infer-node-by, infer-by}
 use Rattle.theorems.proofs.MadeGeneralized.{OnMade, generalize-made-by}
+use Rattle.theorems.proofs.Tests.{or-left, or-right}
 
 -- ## computations from environments of such schemes to such environments
 -- P of the answer, and the environment afterwards.
@@ -58,7 +59,7 @@ made-lifted P Q m f f₁ h k = made-then P Q (lift m) (lift m) f f₁ (made-lift
 
 -- The rest after what nothing is said of.
 pub made-past : {A B : Type 0} (Q : B → Type 0) (m : Steps A) (f f₁ : A → Run B) → ((a : A) → Making Q (f a) (f₁ a)) → Making Q (_>>=_ (lift m) f) (_>>=_ (lift m) f₁)
-made-past Q m f f₁ k = made-lifted Nothing Q m f f₁ (λ n. says-anything (m n)) λ a z. k a
+made-past Q m f f₁ k = made-lifted Nothing Q m f f₁ (λ n. anything (m n)) λ a z. k a
 
 -- ## the parts of inference
 tyvar-made : Making IsMade fresh-tyvar fresh-tyvar
@@ -105,14 +106,6 @@ fresh-all-made (v ∷ vs) =
         → MadeTy (look (insert tyvars (v, var x) s) y)
     go x s h k y i (yes e) j = rw (e, get-insert-same tyvars v (var x) s) (made-var x h)
     go x s h k y i (no e) j = rw (get-insert-other tyvars y (v, var x) s e) (k y (λ f. i (rw j f)))
-
-or-left : (a b : Bool) → a ≡ true → (a || b) ≡ true
-or-left true b e = refl
-or-left false b e = absurd (true≢false (sym e))
-
-or-right : (a b : Bool) → b ≡ true → (a || b) ≡ true
-or-right true b e = refl
-or-right false b e = e
 
 fresh-fills : (vs : List TyVar) (s : Subst) (t : Ty) → Fresh vs s → ((x : TyVar) → occurs x t ≡ true → elem tyvars x vs ≡ false → IsMade x) → MadeTy (sub (look s) t)
 fresh-fills vs s t k h y e = sub-occurs (look s) y (IsMade y) t (λ x i j. k x (h x i) y j) e

@@ -13,11 +13,11 @@ use Rattle.meaning.specs.Classes.{ClassEnv}
 use Rattle.meaning.specs.Reduce.{Discharged, Removed, contains, discharge, reduce-one, reduce-from, reduce, find-super-proof, sorted-out, simplify-from, simplify-context}
 use Rattle.meaning.specs.Cores.{canonical-renamer, canonical-scheme-and-core, canonicalize-pair}
 use Rattle.meaning.specs.Generalize.{Pending, Env, env-ftv, preds-of, with-first, binders-of, simplified, is-own, generalize-binding, finalize-expr}
-use Rattle.theorems.proofs.Says.{Says, Any, and-then, weaken}
+use Rattle.theorems.proofs.Says.{Says, Any, and-then, weaken, anything, past}
 use Rattle.theorems.proofs.Tests.{and-left}
 use Rattle.theorems.proofs.FreeVars.{elem-without, elem-ftv-qual}
-use Rattle.theorems.proofs.Stays.{after-any}
-use Rattle.theorems.proofs.Runs.{Nothing, says-anything}
+use Rattle.theorems.proofs.Stays.{}
+use Rattle.theorems.proofs.Runs.{Nothing}
 use Rattle.theorems.proofs.Twins.{Both, alone, alone-any, both-then}
 use Rattle.theorems.proofs.Made.{IsMade, MadeTy, MadePreds, MadePending, MadeQual, MadeScheme, made-qual, made-append}
 use Rattle.theorems.proofs.MadeSchemes.{canonical-made}
@@ -32,7 +32,7 @@ reduce-from-made : (ce : ClassEnv) (ps : List Pred) (o : List Discharged × List
     → Says (λ r. MadePreds (r .1)) Any (reduce-from ce [] ps o n)
 unfolding reduce-from discharge
 reduce-from-made ce [] o n h k = k
-reduce-from-made ce (p ∷ ps) o n h k = after-any _ (reduce-one ce [] p n) _ λ r m. reduce-from-made ce ps (discharge p r o) m (h .1) (go r)
+reduce-from-made ce (p ∷ ps) o n h k = past _ (reduce-one ce [] p n) _ λ r m. reduce-from-made ce ps (discharge p r o) m (h .1) (go r)
   where
     pick : (b : Bool) → MadePreds (if b (o .1) (o .1 ++ (p ∷ [])))
     pick true = k
@@ -70,7 +70,7 @@ simplify-made : (ce : ClassEnv) (bs : List Binder) (o : List Binder × List Remo
     → Says (λ r. MadePending (r .0)) Any (simplify-from ce bs o n)
 unfolding simplify-from sorted-out
 simplify-made ce [] o n h k = k
-simplify-made ce (b ∷ bs) o n h k = after-any _ (find-super-proof ce (o .0 ++ bs) (b .1) n) _ λ r m. simplify-made ce bs (sorted-out b r o) m (h .1) (go r)
+simplify-made ce (b ∷ bs) o n h k = past _ (find-super-proof ce (o .0 ++ bs) (b .1) n) _ λ r m. simplify-made ce bs (sorted-out b r o) m (h .1) (go r)
   where
     go : (r : Option Core) → MadePending (sorted-out b r o .0)
     go none = made-append (o .0) (b ∷ []) k (h .0, tt)
@@ -82,7 +82,7 @@ pub kept-made : (ce : ClassEnv) (ps : Pending) (e : Core) (bs : List Binder) (ds
 unfolding simplified
 kept-made ce ps e bs ds n h =
     and-then _ _ _ (simplify-context ce bs n) _ (simplify-made ce bs ([], []) n h tt) λ r k m.
-    after-any _ _ _ λ e₁ l. k
+    past _ _ _ λ e₁ l. k
 
 -- ## what is renamed
 -- Each variable of the list was made.
@@ -129,7 +129,7 @@ module _ (ren : Renamer) (agrees : OnMade ren) where
 
   pair-made-by : (q : Qual) (e : Core) (n : ℕ) → MadeQual q → Both Nothing (canonicalize-pair q e n) (pair-by ren q e n)
   unfolding canonicalize-pair pair-by
-  pair-made-by q e n k = record { same = rw (agrees (ftv-qual q) (ftv-made q k)) refl; says = says-anything (canonicalize-pair q e n) }
+  pair-made-by q e n k = record { same = rw (agrees (ftv-qual q) (ftv-made q k)) refl; says = anything (canonicalize-pair q e n) }
 
   module _ (ce : ClassEnv) (u : Ty) (ps : Pending) (e : Core) (n : ℕ) (made-ty : MadeTy u) (made-preds : MadePending ps) where
     -- Generalization of a made type does not see the difference: the scheme's free variables were made, and so was what

@@ -12,11 +12,11 @@ use Rattle.meaning.specs.Subst.{Subst, or-var, look, apply-qual, filtered, ftv-
 use Rattle.meaning.specs.Cores.{sort-by, canonical-renamer, as-subst, images, apply-subst-to-core, canonical-scheme-and-core}
 use Rattle.meaning.specs.Generalize.{Env}
 use Rattle.meaning.specs.Infer.{mono, apply-schemes}
-use Rattle.theorems.proofs.Says.{Says, Any, after-says, and-then, if-says}
+use Rattle.theorems.proofs.Says.{Says, Any, after-says, and-then, if-says, past}
 use Rattle.theorems.proofs.Tests.{yes?-true, and-left, and-right}
 use Rattle.theorems.proofs.Maps.{get-insert-same, get-insert-other}
 use Rattle.theorems.proofs.FreeVars.{elem-sort-by, null-elem, occurs-qual, elem-ftv-scheme}
-use Rattle.theorems.proofs.Stays.{get-remove-same, get-remove-other, after-any, Closed, AllClosed}
+use Rattle.theorems.proofs.Stays.{get-remove-same, get-remove-other, Closed, AllClosed}
 use Rattle.theorems.proofs.Generalized.{qual-occurs, qual-says}
 use Rattle.theorems.proofs.Made.{IsMade, MadeTy, MadeQual, MadeSubst, MadeScheme, MadeAt, MadeEnv}
 
@@ -127,7 +127,7 @@ pub canonical-made : (vs : List TyVar) (q : Qual) (e : Core) (n : ℕ) → MadeQ
 unfolding canonical-scheme-and-core
 canonical-made vs q e n h =
     after-says _ _ _ _ (apply-qual (as-subst (canonical-renamer vs)) q n) _ (qual-says (as-subst (canonical-renamer vs)) q n) (λ r z. tt) λ q₁ i m.
-    after-any _ (apply-subst-to-core (as-subst (canonical-renamer vs)) e m) _ λ e₁ l.
+    past _ (apply-subst-to-core (as-subst (canonical-renamer vs)) e m) _ λ e₁ l.
     scheme-made (sort-by tyvar-before (images (canonical-renamer vs))) q₁ λ y o f.
     qual-occurs (look (as-subst (canonical-renamer vs))) y (IsMade y) q
     (λ x j g. subst IsMade (sym (renamed-or-self x y (canonical-renamer vs) g (sym (elem-sort-by tyvar-before y (images (canonical-renamer vs))) ∙ f))) (h x j)) (rw i at o)

@@ -2,8 +2,8 @@
 use mathlib.Core.Path.{_≡_, refl, sym, subst}
 use Prim.Native.Nat.{ℕ}
 use Rattle.meaning.specs.Budget.{Out, done, refused, Steps, after}
-use Rattle.theorems.proofs.Says.{Says, Any}
-use Rattle.theorems.proofs.Runs.{Nothing, says-anything}
+use Rattle.theorems.proofs.Says.{Says, Any, anything}
+use Rattle.theorems.proofs.Runs.{Nothing}
 
 -- The second outcome is the first one, and P holds of its answer.
 pub record Both {A : Type 0} (P : A → Type 0) (o o₁ : Out A) : Type 0 where
@@ -16,7 +16,7 @@ alone h = record { same = refl; says = h }
 
 -- Nothing is said of its answer.
 pub alone-any : {A : Type 0} (o : Out A) → Both Nothing o o
-alone-any o = alone (says-anything o)
+alone-any o = alone (anything o)
 
 -- One after another, beside one after another.
 pub both-then : {A B : Type 0} (P : A → Type 0) (Q : B → Type 0) (o o₁ : Out A) (f f₁ : A → Steps B)
