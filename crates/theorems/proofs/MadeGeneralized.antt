@@ -16,7 +16,6 @@ use Rattle.meaning.specs.Generalize.{Pending, Env, env-ftv, preds-of, with-firs
 use Rattle.theorems.proofs.Says.{Says, Any, and-then, weaken, anything, past}
 use Rattle.theorems.proofs.Tests.{and-left}
 use Rattle.theorems.proofs.FreeVars.{elem-without, elem-ftv-qual}
-use Rattle.theorems.proofs.Stays.{}
 use Rattle.theorems.proofs.Runs.{Nothing}
 use Rattle.theorems.proofs.Twins.{Both, alone, alone-any, both-then}
 use Rattle.theorems.proofs.Made.{IsMade, MadeTy, MadePreds, MadePending, MadeQual, MadeScheme, made-qual, made-append}
