@@ -62,3 +62,6 @@ pub mod MadeGeneralized
 pub mod MadeOrder
 pub mod InferMade
 pub mod Renames
+pub mod Readers
+pub mod FileNodes
+pub mod FileRead
