@@ -4,3 +4,5 @@ pub mod Starred
 pub mod Worked
 pub mod Corners
 pub mod Fields
+pub mod Bytes
+pub mod Files

@@ -14,6 +14,9 @@ pub mod Generalize
 pub mod Infer
 pub mod Declare
 pub mod Session
+pub mod Reserved
+pub mod Reader
+pub mod File
 pub mod Listing
 pub mod Derives
 pub mod Select

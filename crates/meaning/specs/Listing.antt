@@ -7,6 +7,8 @@ use Rattle.meaning.specs.Base.{if, ltb, count}
 use Rattle.meaning.specs.Text.{Text, quoted, decimal, unpacked}
 use Rattle.meaning.specs.Ast.{Name, name, TyVar, named, fresh, DictName, dvar, ctx, self, Field, method, super, Ty, Tys, var, con, arrow, nil, _◂_, Pred, Qual, Scheme, Core, Cores, cvar, cdict, cint, cbool, cabs, capp, clet, dict-abs, dict-app, dict-proj, dict-rec, cnil, _◃_, Binder, Decl}
 use Rattle.meaning.specs.Errors.{Refusal, room, output, number, Value, a-number, a-name, a-variable, a-type, values, added}
+use Rattle.meaning.specs.Reader.{Read, got, bad}
+use Rattle.meaning.specs.File.{File, read}
 use Rattle.meaning.specs.Session.{Result, accepted, scheme-of, typed, refusal, Answer, new, kept, session}
 
 -- Numbers have at most 20 digits; more than that stand in no file and no counter.
@@ -137,7 +139,21 @@ unfoldable pub listing : (budget work binders length : ℕ) → List Decl → Li
 listing budget work binders length ks = if (ltb work (64 * kept new)) (unlisted room)
     (if-fits length (quoted "declarations " (show-nat (count ks) (quoted "\n" (show-lines 0 (session budget work binders ks new) [])))))
 
+-- The same of what was read: a refusal of 1 to 3 runs no declaration, and the file is read before the room is tested.
+unfoldable pub listing-read : (budget work binders length : ℕ) → Read File → Listed
+listing-read budget work binders length (got f next rest) = listing budget work binders length (f .decls)
+listing-read budget work binders length (bad r) = unlisted r
+
+-- `listing` of a file.
+unfoldable pub listing-of : (budget work binders length : ℕ) → List ℕ → Listed
+listing-of budget work binders length bytes = listing-read budget work binders length (read bytes)
+
+-- The offset that a refusal carries; 0 where it carries none.
+unfoldable pub show-offset : List Value → Text
+show-offset [] cs = show-nat 0 cs
+show-offset (v ∷ vs) cs = show-value v cs
+
 -- What the listing program prints.
 unfoldable pub printed : Listed → List ℕ
 printed (listed text) = text
-printed (unlisted r) = quoted "refused " (show-nat (number r) (quoted " 0\n" []))
+printed (unlisted r) = quoted "refused " (show-nat (number r) (quoted " " (show-offset (values r) (quoted "\n" []))))

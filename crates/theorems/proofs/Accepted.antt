@@ -16,10 +16,10 @@ use Rattle.meaning.specs.Declare.{context-givens, process-class-decl, method-co
 use Rattle.meaning.specs.Derives.{Derives}
 use Rattle.meaning.specs.Select.{field-of}
 use Rattle.meaning.specs.Session.{Checker, accepted, refuses, answer, declare-class, run-decl}
-use Rattle.theorems.proofs.Says.{Says, Any, and-then, weaken}
+use Rattle.theorems.proofs.Says.{Says, Any, and-then, weaken, past}
 use Rattle.theorems.proofs.Fields.{HasField, NoSupers, field-here, field-later, more-fields, method-before, field-right, has-left, has-right}
 use Rattle.theorems.proofs.Resolved.{resolve-says}
-use Rattle.theorems.proofs.Runs.{RunSays, run-then, past, run-past, lift-says, or-refuse-says, either-run, weaken-run}
+use Rattle.theorems.proofs.Runs.{RunSays, run-then, run-past, lift-says, or-refuse-says, either-run, weaken-run}
 
 -- ## a class
 add-class-says : (ce : ClassEnv) (k : ClassDecl) (n : ℕ) → Says (λ ce′. ce′ ≡ with-class k ce) Any (add-class ce k n)

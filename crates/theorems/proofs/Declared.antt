@@ -12,7 +12,7 @@ use Rattle.meaning.specs.Classes.{ClassEnv, ClassInfo, Given}
 use Rattle.meaning.specs.Generalize.{Env, Pending, generalize-binding}
 use Rattle.meaning.specs.Infer.{State, Run, _>>=_, pure, lift, ask-env, with-env, env-insert, infer-expr}
 use Rattle.meaning.specs.Declare.{insert-sigs, process-class-decl, context-givens, method-core, method-cores, default-core, default-cores, process-instance-decl, process-let-decl, check-expr}
-use Rattle.theorems.proofs.Says.{Says, Any, and-then, weaken}
+use Rattle.theorems.proofs.Says.{Says, Any, and-then, weaken, anything}
 use Rattle.theorems.proofs.Ordered.{Sorted}
 use Rattle.theorems.proofs.Stays.{AllClosed, keeps-same}
 use Rattle.theorems.proofs.Stands.{Kept, Standing, unchanged, lift-stands, then-stands, lifted-stands, infer-keeps, infer-stands}
@@ -87,11 +87,6 @@ lifted-out Q P (refused r n) f st h k = tt
 from-such : {A B : Type 0} (env : Env) (Q : B × State → Type 0) (P : A → Type 0) (m : Steps A) (f : A → Run B) → ((n : ℕ) → Says P Any (m n))
     → ((a : A) → P a → From env Q (f a)) → From env Q (_>>=_ (lift m) f)
 from-such env Q P m f h k st n i = lifted-out Q P (m n) f st (h n) λ a p l. k a p st l i
-
--- Where nothing is asked of an outcome, every outcome will do.
-anything : {A : Type 0} (o : Out A) → Says (λ a. Unit {0}) Any o
-anything (done a n) = tt
-anything (refused r n) = tt
 
 from-lifted : {A B : Type 0} (env : Env) (Q : B × State → Type 0) (m : Steps A) (f : A → Run B) → ((a : A) → From env Q (f a)) → From env Q (_>>=_ (lift m) f)
 from-lifted env Q m f k = from-such env Q (λ a. Unit {0}) m f (λ n. anything (m n)) λ a z. k a

@@ -9,7 +9,7 @@ use Rattle.meaning.specs.Ast.{TyVar, same-tyvar, Ty, Tys, var, con, arrow, nil,
 use Rattle.meaning.specs.Subst.{occurs, occurs-in}
 use Rattle.meaning.specs.Plain.{Fill, sub, subs}
 use Rattle.theorems.proofs.Types.{heads, tails, con-args, arrow-left, arrow-right}
-use Rattle.theorems.proofs.Tests.{yes?-true, yes?-false, yes?-of, or-cases, or-false-left, or-false-right}
+use Rattle.theorems.proofs.Tests.{yes?-true, yes?-false, yes?-of, or-cases, or-false-left, or-false-right, or-left, or-right}
 
 mutual
   unfolding sub
@@ -36,14 +36,6 @@ mutual
   subs-var nil = refl
   subs-var (t ◂ ts) = ap₂ _◂_ (sub-var t) (subs-var ts)
 
-occurs-left : (a b : Bool) → a ≡ true → (a || b) ≡ true
-occurs-left true b e = refl
-occurs-left false b e = absurd (false≢true e)
-
-occurs-right : (a b : Bool) → b ≡ true → (a || b) ≡ true
-occurs-right true b e = refl
-occurs-right false b e = e
-
 mutual
   unfolding sub occurs
 
@@ -51,11 +43,11 @@ mutual
   pub sub-agree : (θ τ : Fill) (t : Ty) → ((x : TyVar) → occurs x t ≡ true → θ x ≡ τ x) → sub θ t ≡ sub τ t
   sub-agree θ τ (var x) h = h x (yes?-of (same-tyvar x x) refl)
   sub-agree θ τ (con c ts) h = ap (con c) (subs-agree θ τ ts h)
-  sub-agree θ τ (arrow a b) h = ap₂ arrow (sub-agree θ τ a (λ x e. h x (occurs-left (occurs x a) (occurs x b) e))) (sub-agree θ τ b (λ x e. h x (occurs-right (occurs x a) (occurs x b) e)))
+  sub-agree θ τ (arrow a b) h = ap₂ arrow (sub-agree θ τ a (λ x e. h x (or-left (occurs x a) (occurs x b) e))) (sub-agree θ τ b (λ x e. h x (or-right (occurs x a) (occurs x b) e)))
 
   pub subs-agree : (θ τ : Fill) (ts : Tys) → ((x : TyVar) → occurs-in x ts ≡ true → θ x ≡ τ x) → subs θ ts ≡ subs τ ts
   subs-agree θ τ nil h = refl
-  subs-agree θ τ (t ◂ ts) h = ap₂ _◂_ (sub-agree θ τ t (λ x e. h x (occurs-left (occurs x t) (occurs-in x ts) e))) (subs-agree θ τ ts (λ x e. h x (occurs-right (occurs x t) (occurs-in x ts) e)))
+  subs-agree θ τ (t ◂ ts) h = ap₂ _◂_ (sub-agree θ τ t (λ x e. h x (or-left (occurs x t) (occurs-in x ts) e))) (subs-agree θ τ ts (λ x e. h x (or-right (occurs x t) (occurs-in x ts) e)))
 
 mutual
   unfolding sub occurs

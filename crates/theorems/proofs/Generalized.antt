@@ -14,14 +14,14 @@ use Rattle.meaning.specs.Plain.{Fill, sub, subs, sub-preds}
 use Rattle.meaning.specs.Cores.{internal-before, sort-by, renamer-from, canonical-renamer, as-subst, images, apply-subst-to-core, canonical-scheme-and-core}
 use Rattle.meaning.specs.Classes.{ClassEnv}
 use Rattle.meaning.specs.Generalize.{Pending, Env, env-ftv, preds-of, generalize-binding}
-use Rattle.theorems.proofs.Says.{Says, Limit, Any, after-says, and-then}
-use Rattle.theorems.proofs.Tests.{yes?-true, yes?-of, or-cases, none-some, some-inj}
+use Rattle.theorems.proofs.Says.{Says, Limit, Any, after-says, and-then, past}
+use Rattle.theorems.proofs.Tests.{yes?-true, yes?-of, or-cases, none-some, some-inj, or-left, or-right}
 use Rattle.theorems.proofs.Maps.{get-cons-same, get-cons-other, get-insert-same, get-insert-other}
 use Rattle.theorems.proofs.Applied.{apply-says, preds-say}
 use Rattle.theorems.proofs.Ordered.{Sorted, below-none}
 use Rattle.theorems.proofs.ByteOrder.{names-ordered}
 use Rattle.theorems.proofs.FreeVars.{elem-cons, elem-without, elem-sort-by, null-of, elem-ftv-qual, occurs-preds, occurs-qual, elem-ftv-scheme}
-use Rattle.theorems.proofs.Stays.{after-any, Closed, AllClosed}
+use Rattle.theorems.proofs.Stays.{Closed, AllClosed}
 
 -- A scheme that binds every variable of its type is closed.
 pub closed-if : (vs : List TyVar) (q : Qual) → ((x : TyVar) → occurs-qual x q ≡ true → elem tyvars x vs ≡ true) → Closed (forall vs q)
@@ -30,15 +30,6 @@ closed-if vs q h = null-of (ftv-scheme (forall vs q)) λ x. elem-ftv-scheme x (f
     go : (x : TyVar) (c : Bool) → occurs-qual x q ≡ c → (c && not (elem tyvars x vs)) ≡ false
     go x true i = rw (h x i) refl
     go x false i = refl
-
--- ## what a substitution brings
-or-left : (a b : Bool) → a ≡ true → (a || b) ≡ true
-or-left true b e = refl
-or-left false b e = absurd (false≢true e)
-
-or-right : (a b : Bool) → b ≡ true → (a || b) ≡ true
-or-right true b e = refl
-or-right false b e = e
 
 mutual
   unfolding sub occurs
@@ -148,7 +139,7 @@ pub canonical-closed : (vs : List TyVar) (q : Qual) (e : Core) (n : ℕ) → ((x
 unfolding canonical-scheme-and-core
 canonical-closed vs q e n h =
     after-says _ _ _ _ (apply-qual (as-subst (canonical-renamer vs)) q n) _ (qual-says (as-subst (canonical-renamer vs)) q n) (λ r z. tt) λ q₁ i m.
-    after-any _ (apply-subst-to-core (as-subst (canonical-renamer vs)) e m) _ λ e₁ l.
+    past _ (apply-subst-to-core (as-subst (canonical-renamer vs)) e m) _ λ e₁ l.
     closed-if (sort-by tyvar-before (images (canonical-renamer vs))) q₁ λ y o.
     elem-sort-by tyvar-before y (images (canonical-renamer vs))
     ∙ qual-occurs (look (as-subst (canonical-renamer vs))) y _ q (λ x j f. renamed-image x y vs (h x j) f) (rw i at o)
@@ -174,9 +165,9 @@ pub generalize-closed : (ce : ClassEnv) (env : Env) → env-ftv env ≡ [] → (
     → Says (λ g. Closed (g .0)) Any (generalize-binding ce env u ps e n)
 unfolding generalize-binding elem
 generalize-closed ce env f u ps e n =
-    after-any _ _ _ λ r m.
-    after-any _ _ _ λ k m₁.
-    after-any _ _ _ λ _ m₂.
+    past _ _ _ λ r m.
+    past _ _ _ λ k m₁.
+    past _ _ _ λ _ m₂.
     and-then _ _ _ _ _ (canonical-closed (without (ftv-qual (qual (preds-of (k .0)) u)) (env-ftv env)) (qual (preds-of (k .0)) u) (k .1) m₂ (bound (qual (preds-of (k .0)) u))) λ g c l. c
   where
     bound : (q : Qual) (x : TyVar) → occurs-qual x q ≡ true → elem tyvars x (without (ftv-qual q) (env-ftv env)) ≡ true

@@ -53,3 +53,15 @@ pub mod Theorems
 pub mod Running
 pub mod Premises
 pub mod ReplacedOnce
+pub mod Made
+pub mod MadeSchemes
+pub mod Twins
+pub mod OtherNames
+pub mod OtherRuns
+pub mod MadeGeneralized
+pub mod MadeOrder
+pub mod InferMade
+pub mod Renames
+pub mod Readers
+pub mod FileNodes
+pub mod FileRead

@@ -19,6 +19,7 @@ use Rattle.theorems.proofs.Types.{heads, tails, con-name, con-args, arr
 use Rattle.theorems.proofs.Maps.{get-cons-same}
 use Rattle.theorems.proofs.Fills.{count-subs}
 use Rattle.theorems.proofs.Joins.{Holds, is-some, has, Joined, merge-says}
+use Rattle.theorems.proofs.Looks.{look-same}
 
 -- The substitution has just the pairs that a map needs to take the pattern to the type, and names just the pattern's
 -- variables.
@@ -90,10 +91,6 @@ con-says m h c e xs ys (yes i) true k n =
     })
     (λ r z d θ q. z d θ tt (con-args _ _ _ _ q))
 
-look-one : (v : TyVar) (t : Ty) → look (singleton v t) v ≡ t
-unfolding or-var
-look-one v t = ap (or-var v) (get-cons-same tyvars v t [])
-
 has-one : (x v : TyVar) (t : Ty) → has x (singleton v t) ≡ occurs x (var v)
 unfolding has get occurs is-some
 has-one x v t = go (same-tyvar x v)
@@ -104,7 +101,7 @@ has-one x v t = go (same-tyvar x v)
 
 node-says : (m : Ty → Ty → Steps Subst) → Matcher m → (p t : Ty) (n : ℕ) → Says (Exact p t) (NoMatch p t) (match-node m p t n)
 unfolding match-node sub occurs
-node-says m h (var v) t n = record { to = λ θ f. f .0; of = λ θ e. (e, tt); own = (look-one v t, tt); names = λ x. has-one x v t }
+node-says m h (var v) t n = record { to = λ θ f. f .0; of = λ θ e. (e, tt); own = (look-same v t, tt); names = λ x. has-one x v t }
 node-says m h (con c xs) (var v) n = λ _ θ e. con-not-var _ _ _ e
 node-says m h (con c xs) (con e ys) n = con-says m h c e xs ys (same-name c e) (eqb (count-tys xs) (count-tys ys)) refl n
 node-says m h (con c xs) (arrow a b) n = λ _ θ e. con-not-arrow _ _ _ _ e

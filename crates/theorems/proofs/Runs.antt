@@ -8,7 +8,7 @@ use Rattle.meaning.specs.Base.{if}
 use Rattle.meaning.specs.Errors.{Refusal}
 use Rattle.meaning.specs.Budget.{Out, done, refused, Steps, after, or-refuse}
 use Rattle.meaning.specs.Infer.{State, Run}
-use Rattle.theorems.proofs.Says.{Says, Any, and-then}
+use Rattle.theorems.proofs.Says.{Says, Any, and-then, past, anything}
 
 abbrev pub RunSays : {A : Type 0} → (A → Type 0) → Out (A × State) → Type 0
 RunSays P o = Says (λ r. P (r .0)) Any o
@@ -17,19 +17,10 @@ RunSays P o = Says (λ r. P (r .0)) Any o
 abbrev pub Nothing : {A : Type 0} → A → Type 0
 Nothing a = Unit {0}
 
--- That holds of every outcome: it steps over what does not matter.
-pub says-anything : {A : Type 0} (o : Out A) → Says Nothing Any o
-says-anything (done a n) = tt
-says-anything (refused r n) = tt
-
 -- One computation after another.
 pub run-then : {A B : Type 0} (P : A → Type 0) (Q : B → Type 0) (o : Out (A × State)) (f : A → Run B)
     → RunSays P o → ((a : A) → P a → (st : State) (n : ℕ) → RunSays Q (f a st n)) → RunSays Q (after o (λ r. f (r .0) (r .1)))
 run-then P Q o f h k = and-then (λ r. P (r .0)) Any (λ r. Q (r .0)) o (λ r. f (r .0) (r .1)) h λ r x n. k (r .0) x (r .1) n
-
--- What follows may forget what came first.
-pub past : {A B : Type 0} (Q : B → Type 0) (o : Out A) (f : A → Steps B) → ((a : A) (n : ℕ) → Says Q Any (f a n)) → Says Q Any (after o f)
-past Q o f k = and-then Nothing Any Q o f (says-anything o) λ a x n. k a n
 
 -- The same of computations that change the state.
 pub run-past : {A B : Type 0} (Q : B → Type 0) (o : Out (A × State)) (f : A → Run B)

@@ -77,6 +77,15 @@ pub both-say : {A : Type 0} (P : A → Type 0) (R : Refusal → Type 0) (Q : A �
 both-say P R Q S (done a n) h k = (h, k)
 both-say P R Q S (refused r n) h k = (h, k)
 
+-- Nothing is said of an outcome.
+pub anything : {A : Type 0} (o : Out A) → Says (λ a. Unit {0}) Any o
+anything (done a n) = tt
+anything (refused r n) = tt
+
+-- What follows a computation of which nothing is said.
+pub past : {A B : Type 0} (Q : B → Type 0) (o : Out A) (f : A → Steps B) → ((a : A) (n : ℕ) → Says Q Any (f a n)) → Says Q Any (after o f)
+past Q o f h = and-then (λ a. Unit {0}) Any Q o f (anything o) (λ a _. h a)
+
 pub of-done : {A : Type 0} (P : A → Type 0) (R : Refusal → Type 0) (o : Out A) (a : A) (n : ℕ) → Says P R o → o ≡ done a n → P a
 of-done P R o a n h e = subst (λ (o : Out _). Says P R o) e h
 

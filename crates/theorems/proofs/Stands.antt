@@ -10,9 +10,9 @@ use Rattle.meaning.specs.Subst.{Subst, apply-pred}
 use Rattle.meaning.specs.Classes.{ClassEnv}
 use Rattle.meaning.specs.Generalize.{Env}
 use Rattle.meaning.specs.Infer.{State, Run, _>>=_, lift, ask-env, with-env, fresh-tyvar, fresh-dictvar, env-insert, env-restore, apply-schemes, apply-env, fresh-all, instantiate-preds, instantiate, Inferred, infer-var, infer-abs, infer-app, infer-let, infer-node, infer-in}
-use Rattle.theorems.proofs.Says.{Says, Any, and-then, step-says, weaken}
+use Rattle.theorems.proofs.Says.{Says, Any, and-then, step-says, weaken, past}
 use Rattle.theorems.proofs.Ordered.{Sorted}
-use Rattle.theorems.proofs.Stays.{after-any, Stays, Keeps, keeps-refl, keeps-trans, schemes-keep, restored, keeps-restored, AllClosed, keeps-same}
+use Rattle.theorems.proofs.Stays.{Stays, Keeps, keeps-refl, keeps-trans, schemes-keep, restored, keeps-restored, AllClosed, keeps-same}
 
 -- The environment afterwards, against the one before.
 abbrev pub Kept : {A : Type 0} → Env → A × State → Type 0
@@ -29,7 +29,7 @@ unchanged st n = keeps-refl (st .env)
 
 -- What changes no state.
 pub lift-stands : {A : Type 0} (m : Steps A) → Standing (lift m)
-lift-stands m st n = after-any _ (m n) _ λ a k. keeps-refl (st .env)
+lift-stands m st n = past _ (m n) _ λ a k. keeps-refl (st .env)
 
 -- One computation after another.
 pub then-stands : {A B : Type 0} (m : Run A) (f : A → Run B) → Standing m → ((a : A) → Standing (f a)) → Standing (_>>=_ m f)

@@ -12,7 +12,7 @@ use Rattle.meaning.specs.Map.{Keys, Map, names, get, insert, remove}
 use Rattle.meaning.specs.Subst.{Subst, apply-qual, filtered, ftv-scheme, apply-scheme}
 use Rattle.meaning.specs.Generalize.{Env}
 use Rattle.meaning.specs.Infer.{apply-schemes}
-use Rattle.theorems.proofs.Says.{Says, Any, after-says, and-then, if-says, both-say}
+use Rattle.theorems.proofs.Says.{Says, Any, after-says, and-then, if-says, both-say, past}
 use Rattle.theorems.proofs.Maps.{get-insert-same, get-insert-other}
 use Rattle.theorems.proofs.Ordered.{Below, Sorted, sorted-insert, sorted-remove, same-finds}
 use Rattle.theorems.proofs.ByteOrder.{names-ordered}
@@ -48,12 +48,6 @@ module _ {K A : Type 0} (k : Keys K) where
 abbrev pub Closed : Scheme → Type 0
 Closed c = null (ftv-scheme c) ≡ true
 
--- What follows a computation of which nothing is said.
-pub after-any : {A B : Type 0} (Q : B → Type 0) (o : Out A) (f : A → Steps B) → ((a : A) (n : ℕ) → Says Q Any (f a n)) → Says Q Any (after o f)
-unfolding after
-after-any Q (done a n) f k = k a n
-after-any Q (refused r n) f k = tt
-
 -- A closed scheme is given back at once, every step left over.
 pub closed-scheme : (s : Subst) (c : Scheme) (n : ℕ) → Closed c → apply-scheme s c n ≡ done c n
 unfolding apply-scheme
@@ -64,7 +58,7 @@ pub scheme-stays : (s : Subst) (c : Scheme) (n : ℕ) → Says (λ d. Closed c �
 unfolding apply-scheme
 scheme-stays s c n =
     if-says _ _ (null (ftv-scheme c)) _ _ n (λ e h. refl)
-    λ e. after-any _ (apply-qual (filtered (c .vars) s) (c .qual) n) _ λ q m h. absurd (true≢false (sym h ∙ e))
+    λ e. past _ (apply-qual (filtered (c .vars) s) (c .qual) n) _ λ q m h. absurd (true≢false (sym h ∙ e))
 
 -- ## environments
 -- A name is there before and after, or neither; a closed scheme is still the same.
@@ -115,7 +109,7 @@ below-keys : (s : Subst) (x : Name) (env : Env) (n : ℕ) → Below names x env 
 unfolding apply-schemes
 below-keys s x [] n b = tt
 below-keys s x (p ∷ env) n b =
-    after-any _ (apply-scheme s (p .1) n) _ λ c m.
+    past _ (apply-scheme s (p .1) n) _ λ c m.
     and-then _ _ _ (apply-schemes s env m) _ (below-keys s x env m (b .1)) λ env′ k l. (b .0, k)
 
 -- And their order.
@@ -123,7 +117,7 @@ pub schemes-sorted : (s : Subst) (env : Env) (n : ℕ) → Sorted names env → 
 unfolding apply-schemes
 schemes-sorted s [] n w = tt
 schemes-sorted s (p ∷ env) n w =
-    after-any _ (apply-scheme s (p .1) n) _ λ c m.
+    past _ (apply-scheme s (p .1) n) _ λ c m.
     after-says _ _ _ _ (apply-schemes s env m) _ (both-say _ _ _ _ (apply-schemes s env m) (below-keys s (p .0) env m (w .0)) (schemes-sorted s env m (w .1))) (λ r z. tt) λ env′ k l. k
 
 -- Both: what a part of inference does to the environment.

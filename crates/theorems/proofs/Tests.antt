@@ -53,6 +53,14 @@ pub or-cases : (a b : Bool) → (a || b) ≡ true → (P : Type 0) → (a ≡ tr
 or-cases true b e P f g = f e
 or-cases false b e P f g = g e
 
+pub or-left : (a b : Bool) → a ≡ true → (a || b) ≡ true
+or-left true b e = refl
+or-left false b e = absurd (false≢true e)
+
+pub or-right : (a b : Bool) → b ≡ true → (a || b) ≡ true
+or-right true b e = refl
+or-right false b e = e
+
 pub or-false-left : (a b : Bool) → (a || b) ≡ false → a ≡ false
 or-false-left true b e = e
 or-false-left false b e = refl

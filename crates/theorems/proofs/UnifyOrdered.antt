@@ -8,14 +8,9 @@ use Rattle.meaning.specs.Budget.{Out, done, refused, Steps, pure, refuse}
 use Rattle.meaning.specs.Map.{tyvars}
 use Rattle.meaning.specs.Subst.{Subst, empty, singleton, apply-type, apply-values, compose, agree, merge, occurs}
 use Rattle.meaning.specs.Unify.{bind-other, bind, unify-zip, unify-con, unify-arrow, unify-node, unify-in, match-zip, match-node, match-in}
-use Rattle.theorems.proofs.Says.{Says, Any, and-then, step-says, if-says}
+use Rattle.theorems.proofs.Says.{Says, Any, and-then, step-says, if-says, anything}
 use Rattle.theorems.proofs.Ordered.{Sorted, sorted-or-insert}
 use Rattle.theorems.proofs.ByteOrder.{tyvars-ordered}
-
--- Every outcome is one; what it holds is not looked at.
-anything : {A : Type 0} (o : Out A) → Says (λ a. Unit {0}) Any o
-anything (done a n) = tt
-anything (refused r n) = tt
 
 -- The pairs of `other` come over `self`, so `other` may have any order.
 pub compose-ordered : (self other : Subst) → Sorted tyvars self → (n : ℕ) → Says (Sorted tyvars) Any (compose self other n)
