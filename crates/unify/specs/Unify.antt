@@ -1,19 +1,15 @@
 -- What unification's functions ask of the words and give: the substitution as pairs below where the stack ended.
 use mathlib.Core.Path.{_≡_}
-use mathlib.Core.List.{List, [], _∷_}
-use Prim.Native.Nat.{ℕ, zero, suc, _+_, _*_, _-_, _<_, _≤_}
-use lib.ListN.{length, getD}
-use Rattle.meaning.specs.Ast.{Ty, Tys}
-use Rattle.meaning.specs.Budget.{Out, done, refused, Steps, after, _>>=_, pure}
-use Rattle.meaning.specs.Map.{tyvars}
+use mathlib.Core.List.{List}
+use Prim.Native.Nat.{ℕ, _+_, _*_, _≤_}
+use lib.ListN.{length}
+use Rattle.meaning.specs.Ast.{Ty}
+use Rattle.meaning.specs.Budget.{Out, done, Steps, _>>=_, pure}
 use Rattle.meaning.specs.Subst.{Subst, apply-type, compose}
-use Rattle.theorems.proofs.Ordered.{Sorted}
 use Rattle.names.specs.Names.{Names}
-use Rattle.ast.specs.Table.{tree, list, Table, Kept, Node}
+use Rattle.ast.specs.Table.{tree, Node}
 use Rattle.errors.specs.Refusals.{Refuses}
-use Rattle.pairs.specs.Pairs.{subAt, Sub, Stands}
-use Rattle.apply.specs.declared.Applied.{Applied}
-use Rattle.apply.specs.declared.Applied.the-variants.{Done, Refused}
+use Rattle.pairs.specs.Pairs.{Stands}
 use Rattle.unify.specs.declared.Two.{Two}
 use Rattle.unify.specs.declared.Two.the-variants.{Done as Two-Done, Refused as Two-Refused}
 
@@ -38,6 +34,7 @@ pub record Binds (ns w : List ℕ) (top left sp t : ℕ) : Type 0 where
   pub room : 4 * top + 8 * left + 2 ≤ sp
   pub fits : sp ≤ length w
 
+-- Both are words of the grown table; of the words spoken for at least eight came free, and at least two steps are spent.
 pub record GrownTwo (w′ : List ℕ) (top left top′ left′ a b : ℕ) : Type 0 where
   pub first : Node w′ top′ a
   pub second : Node w′ top′ b
@@ -45,10 +42,12 @@ pub record GrownTwo (w′ : List ℕ) (top left top′ left′ a b : ℕ) : Type
   pub spent : 4 * top′ + 8 * left′ + 8 ≤ 4 * top + 8 * left
   pub down : left′ + 2 ≤ left
 
+-- The code's answer for an outcome o.
 abbrev pub AnswerTwo : List ℕ → List ℕ → ℕ → ℕ → Out (Ty × Ty) → Two → Type 0
 AnswerTwo ns w′ top left o (Two-Done a b top′ left′) = (o ≡ done (tree ns w′ a, tree ns w′ b) left′) × GrownTwo w′ top left top′ left′ a b
 AnswerTwo ns w′ top left o (Two-Refused e top′ left′) = Refuses ns w′ top left o e top′ left′
 
+-- The words became w′: what is older stands, and the answer is the outcome o.
 pub record GivesTwo (ns w w′ : List ℕ) (top left : ℕ) (o : Out (Ty × Ty)) (r : Two) : Type 0 where
   pub stands : Stands w w′ top (4 * top + 8 * left)
   pub answer : AnswerTwo ns w′ top left o r
