@@ -6,3 +6,4 @@ pub mod Moved
 pub mod Joined
 pub mod Agreeing
 pub mod Values
+pub mod Hand

@@ -24,7 +24,7 @@ use Rattle.apply.specs.declared.Applied.the-variants.{Done, Refused}
 use Rattle.compose.specs.Answers.{GivesU, ReadyU, ReadyOne, ReadyArrow}
 use Rattle.matching.specs.Match.{match-one, match-arrow, Shapes}
 use Rattle.pairs.proofs.Frames.{stands-refl, sub-none}
-use Rattle.matching.proofs.Hand.{on, because, got, lost}
+use Rattle.compose.proofs.Hand.{on, because, got, lost}
 
 -- ## Tests
 

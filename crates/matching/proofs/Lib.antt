@@ -1,4 +1,3 @@
-pub mod Hand
 pub mod Pairs
 pub mod Steps
 pub mod Heads

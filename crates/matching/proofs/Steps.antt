@@ -20,7 +20,7 @@ use Rattle.compose.specs.Compose.{Both, AnswerSub, GivesSub}
 use Rattle.compose.specs.Answers.{AnswerU, GivesU, ReadyU, ReadyOne}
 use Rattle.matching.specs.Match.{match-one}
 use Rattle.pairs.proofs.Frames.{stands-up, sub-stands, sub-later}
-use Rattle.matching.proofs.Hand.{after-after, on, because, got, lost, stays}
+use Rattle.compose.proofs.Hand.{after-after, on, because, got, lost, stays}
 
 -- ## One pair of types
 

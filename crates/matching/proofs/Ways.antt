@@ -21,7 +21,7 @@ use Rattle.apply.specs.declared.Applied.the-variants.{Done, Refused}
 use Rattle.compose.specs.Answers.{GivesU, ReadyU, ReadyArrow}
 use Rattle.matching.specs.Match.{match-arrow, Shapes, Classes}
 use Rattle.pairs.proofs.Frames.{stands-refl}
-use Rattle.matching.proofs.Hand.{on}
+use Rattle.compose.proofs.Hand.{on}
 use Rattle.matching.proofs.Pairs.{one-pair}
 use Rattle.matching.proofs.Heads.{names-same, names-not, differ, node-arrow}
 

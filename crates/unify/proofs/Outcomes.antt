@@ -10,6 +10,7 @@ use Rattle.meaning.specs.Errors.{too-deep, out-of-steps}
 use Rattle.meaning.specs.Budget.{Out, done, refused, Steps, after, step}
 use Rattle.meaning.specs.Subst.{Subst, apply-in, compose}
 use Rattle.meaning.specs.Unify.{unify-zip, unify-arrow, unify-node, unify-in}
+use Rattle.compose.proofs.Hand.{after-after}
 use Rattle.unify.specs.Unify.{apply-two, unify-one}
 
 -- A decision whose fact holds.
@@ -42,12 +43,6 @@ pair-then {A} {B} (done a n) q f = second (q n)
     second : (o : Out B) → after o (λ b. f a b) ≡ after (after {B = A × B} o (λ b m. done (a, b) m)) (λ p. f (p .0) (p .1))
     second (refused r m) = refl
     second (done b m) = refl
-
--- What follows a computation and the next follows both as one.
-after-after : {A B C : Type 0} (o : Out A) (f : A → Steps B) (g : B → Steps C) → after (after o f) g ≡ after o (λ a n. after (f a n) g)
-unfolding after
-after-after (refused r n) f g = refl
-after-after (done a n) f g = refl
 
 -- One pair, written out.
 one-is : (u : Ty → Ty → Steps Subst) (s : Subst) (x y : Ty) (n : ℕ)

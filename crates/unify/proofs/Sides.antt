@@ -15,7 +15,8 @@ use Rattle.apply.specs.declared.Applied.the-variants.{Done, Refused}
 use Rattle.compose.specs.Answers.{GivesU, ReadyOne, ReadyArrow}
 use Rattle.unify.specs.Unify.{unify-one}
 use Rattle.unify.proofs.Outcomes.{arrow-one}
-use Rattle.unify.proofs.Hand.{refuses-on, on, because, got, lost}
+use Rattle.unify.proofs.Hand.{refuses-on, on, because}
+use Rattle.compose.proofs.Hand.{got, lost}
 
 module _ {ns w : List ℕ} {top left sp a b c d : ℕ} (R : ReadyArrow ns w top left sp a b c d) (depth : ℕ) {w₁ : List ℕ} {r : Applied}
     (G : GivesU 1 0 ns w w₁ top left sp (unify-in depth (tree ns w a) (tree ns w c) left) r) where

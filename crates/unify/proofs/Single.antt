@@ -19,7 +19,8 @@ use Rattle.unify.specs.Unify.{apply-two, unify-one, GrownTwo, GivesTwo}
 use Rattle.unify.specs.declared.Two.{Two}
 use Rattle.unify.specs.declared.Two.the-variants.{Done as Two-Done, Refused as Two-Refused}
 use Rattle.pairs.proofs.Frames.{stands-then, stands-up, sub-later, sub-stands}
-use Rattle.unify.proofs.Hand.{refuses-on, on, because, got, lost}
+use Rattle.unify.proofs.Hand.{refuses-on, on, because}
+use Rattle.compose.proofs.Hand.{got, lost}
 
 -- The regions as `compose_in` asks for them.
 pub join-both : {ns w : List ℕ} {top left hi k₂ k : ℕ} → ReadyJoin ns w top left hi k₂ k → Both ns w top left (hi - 2 * k - 2 * k₂) k₂ k

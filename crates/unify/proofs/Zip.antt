@@ -24,7 +24,8 @@ use Rattle.compose.specs.Answers.{GivesU, ReadyU, ReadyOne}
 use Rattle.unify.specs.Unify.{unify-one}
 use Rattle.pairs.proofs.Frames.{stands-refl}
 use Rattle.unify.proofs.Outcomes.{holds, fails, zip-one, zip-nil}
-use Rattle.unify.proofs.Hand.{refuses-on, on, because, refuses, got, lost}
+use Rattle.unify.proofs.Hand.{refuses-on, on, because, refuses}
+use Rattle.compose.proofs.Hand.{got, lost}
 
 -- The pairs as they are.
 stays : {ns w : List ℕ} {top left hi k x y : ℕ} {o : Out Subst} → ReadyOne ns w top left hi k x y → o ≡ done (subAt ns w (hi - 2 * k) k) left → GivesU 0 (2 * k) ns w w top left hi o (Done k top left)

@@ -4,7 +4,7 @@ use native.Mathlib.Omega.{arith}
 use borrow.Author.Needs.{needs}
 use Rattle.ast.proofs.Laws.{node-room}
 use Rattle.pairs.proofs.Frames.{long}
-use Rattle.matching.proofs.Hand.{got}
+use Rattle.compose.proofs.Hand.{got}
 use Rattle.matching.proofs.Steps.{one-ready, one-fails, one-both, one-more, one-under, one-done, zip-end, zip-end-2, zip-one, zip-fails, zip-ready, zip-goes}
 use Rattle.matching.proofs.Heads.{cons-first, cons-second, cons-ready, cons-names, cons-lengths, cons-go, arrow-fails, arrow-ready, arrow-goes}
 use Rattle.matching.proofs.Ways.{ty-deep, ty-spent, ty-var, ty-con-var, ty-con-arrow, ty-arrow-var, ty-arrow-con, ty-cons, ty-less, ty-shapes, ty-sides, ty-arrows}
