@@ -16,7 +16,18 @@ ghost use Rattle.compose.specs.Answers.{GivesU, ReadyU, ReadyOne, ReadyArrow};
 ghost use Rattle.matching.specs.Match.{match-one, match-arrow, Shapes, Classes};
 
 // The arguments of a pattern, after the k pairs that end at hi.
-fn match_zip(base: &[u64], work: &mut [u64], names: &[u64], top: usize, left: usize, depth: usize, hi: usize, k: usize, xs: usize, ys: usize) -> Applied
+fn match_zip(
+    base: &[u64],
+    work: &mut [u64],
+    names: &[u64],
+    top: usize,
+    left: usize,
+    depth: usize,
+    hi: usize,
+    k: usize,
+    xs: usize,
+    ys: usize,
+) -> Applied
     requires { ⌜ length (now base) ≤ 4 * top ⌝ }
     requires { ⌜ ReadyOne (now names) (now base ++ now work) top left hi k xs ys ⌝ }
     ensures { λ r. ⌜ GivesU 0 (2 * k) (now (names .entry)) (now (base .entry) ++ now (work .entry)) (now (base .entry) ++ now (work .exit)) top left hi
@@ -31,7 +42,18 @@ fn match_zip(base: &[u64], work: &mut [u64], names: &[u64], top: usize, left: us
             Cell::Cons(y, ys2) => {
                 let r = match_one(base, work, names, top, left, depth, hi, k, x, y);
                 match r {
-                    Applied::Done(k2, t, l) => match_zip(base, work, names, t, l, depth, hi, k2, xs2, ys2),
+                    Applied::Done(k2, t, l) => match_zip(
+                        base,
+                        work,
+                        names,
+                        t,
+                        l,
+                        depth,
+                        hi,
+                        k2,
+                        xs2,
+                        ys2,
+                    ),
                     Applied::Refused(e, t, l) => Applied::Refused(e, t, l),
                 }
             }
@@ -40,7 +62,18 @@ fn match_zip(base: &[u64], work: &mut [u64], names: &[u64], top: usize, left: us
 }
 
 // One pair of types, merged into the k pairs that end at hi.
-fn match_one(base: &[u64], work: &mut [u64], names: &[u64], top: usize, left: usize, depth: usize, hi: usize, k: usize, x: usize, y: usize) -> Applied
+fn match_one(
+    base: &[u64],
+    work: &mut [u64],
+    names: &[u64],
+    top: usize,
+    left: usize,
+    depth: usize,
+    hi: usize,
+    k: usize,
+    x: usize,
+    y: usize,
+) -> Applied
     requires { ⌜ length (now base) ≤ 4 * top ⌝ }
     requires { ⌜ ReadyOne (now names) (now base ++ now work) top left hi k x y ⌝ }
     ensures { λ r. ⌜ GivesU 1 (2 * k) (now (names .entry)) (now (base .entry) ++ now (work .entry)) (now (base .entry) ++ now (work .exit)) top left hi
@@ -48,13 +81,36 @@ fn match_one(base: &[u64], work: &mut [u64], names: &[u64], top: usize, left: us
 {
     let r = match_ty(base, work, names, top, left, depth, hi - 2 * k, x, y);
     match r {
-        Applied::Done(k2, t, l) => compose::merge_pairs(base, work, names, t, l, hi - 2 * k - 2 * k2, k2, k),
+        Applied::Done(k2, t, l) => compose::merge_pairs(
+            base,
+            work,
+            names,
+            t,
+            l,
+            hi - 2 * k - 2 * k2,
+            k2,
+            k,
+        ),
         Applied::Refused(e, t, l) => Applied::Refused(e, t, l),
     }
 }
 
 // Two constructors of types s and t: one name and as many arguments, or 12.
-fn match_cons(base: &[u64], work: &mut [u64], names: &[u64], top: usize, left: usize, depth: usize, sp: usize, s: usize, t: usize, c: usize, xs: usize, d: usize, ys: usize) -> Applied
+fn match_cons(
+    base: &[u64],
+    work: &mut [u64],
+    names: &[u64],
+    top: usize,
+    left: usize,
+    depth: usize,
+    sp: usize,
+    s: usize,
+    t: usize,
+    c: usize,
+    xs: usize,
+    d: usize,
+    ys: usize,
+) -> Applied
     requires { ⌜ length (now base) ≤ 4 * top ⌝ }
     requires { ⌜ ReadyU (now names) (now base ++ now work) top left sp s t ⌝ }
     requires { ⌜ Shapes (now base ++ now work) s t c xs d ys ⌝ }
@@ -73,7 +129,19 @@ fn match_cons(base: &[u64], work: &mut [u64], names: &[u64], top: usize, left: u
 }
 
 // Two arrows: the left sides, then the right sides, then both merged.
-fn match_arrow(base: &[u64], work: &mut [u64], names: &[u64], top: usize, left: usize, depth: usize, sp: usize, a: usize, b: usize, c: usize, d: usize) -> Applied
+fn match_arrow(
+    base: &[u64],
+    work: &mut [u64],
+    names: &[u64],
+    top: usize,
+    left: usize,
+    depth: usize,
+    sp: usize,
+    a: usize,
+    b: usize,
+    c: usize,
+    d: usize,
+) -> Applied
     requires { ⌜ length (now base) ≤ 4 * top ⌝ }
     requires { ⌜ ReadyArrow (now names) (now base ++ now work) top left sp a b c d ⌝ }
     ensures { λ r. ⌜ GivesU 0 0 (now (names .entry)) (now (base .entry) ++ now (work .entry)) (now (base .entry) ++ now (work .exit)) top left sp
@@ -87,7 +155,17 @@ fn match_arrow(base: &[u64], work: &mut [u64], names: &[u64], top: usize, left: 
 }
 
 // `match_ty`: the pattern s against the type t, as pairs that end at sp, where the stack ends.
-pub fn match_ty(base: &[u64], work: &mut [u64], names: &[u64], top: usize, left: usize, depth: usize, sp: usize, s: usize, t: usize) -> Applied
+pub fn match_ty(
+    base: &[u64],
+    work: &mut [u64],
+    names: &[u64],
+    top: usize,
+    left: usize,
+    depth: usize,
+    sp: usize,
+    s: usize,
+    t: usize,
+) -> Applied
     requires { ⌜ length (now base) ≤ 4 * top ⌝ }
     requires { ⌜ ReadyU (now names) (now base ++ now work) top left sp s t ⌝ }
     ensures { λ r. ⌜ GivesU 1 0 (now (names .entry)) (now (base .entry) ++ now (work .entry)) (now (base .entry) ++ now (work .exit)) top left sp
@@ -123,7 +201,18 @@ pub fn match_ty(base: &[u64], work: &mut [u64], names: &[u64], top: usize, left:
 }
 
 // `match_pred`: a head of class c at s against a goal of class d at t.
-pub fn match_pred(base: &[u64], work: &mut [u64], names: &[u64], top: usize, left: usize, sp: usize, c: usize, s: usize, d: usize, t: usize) -> Applied
+pub fn match_pred(
+    base: &[u64],
+    work: &mut [u64],
+    names: &[u64],
+    top: usize,
+    left: usize,
+    sp: usize,
+    c: usize,
+    s: usize,
+    d: usize,
+    t: usize,
+) -> Applied
     requires { ⌜ length (now base) ≤ 4 * top ⌝ }
     requires { ⌜ ReadyU (now names) (now base ++ now work) top left sp s t ⌝ }
     requires { ⌜ Classes c d ⌝ }
@@ -131,7 +220,11 @@ pub fn match_pred(base: &[u64], work: &mut [u64], names: &[u64], top: usize, lef
         (U.match-pred (pred (nameOf (now (names .entry)) c) (tree (now (names .entry)) (now (base .entry) ++ now (work .entry)) s)) (pred (nameOf (now (names .entry)) d) (tree (now (names .entry)) (now (base .entry) ++ now (work .entry)) t)) left) r ⌝ }
 {
     if c != d {
-        return Applied::Refused(Refusal::UnificationFailure(names::NULLARY + c, names::NULLARY + d), top, left);
+        return Applied::Refused(
+            Refusal::UnificationFailure(names::NULLARY + c, names::NULLARY + d),
+            top,
+            left,
+        );
     }
     match_ty(base, work, names, top, left, 256, sp, s, t)
 }

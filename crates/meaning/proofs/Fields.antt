@@ -29,8 +29,12 @@ twice = method (called "twice")
 
 -- Two fields of one name: the first names the instance's own number, the second another one.
 abbrev two-fields : ClassEnv
-two-fields = record { classes = []; method-of = []; instances =
-    instance-of [] int ((twice, dict-rec eq int 0) ∷ (twice, dict-rec eq int 1) ∷ []) ∷ instance-of [] int [] ∷ [] }
+two-fields = record {
+  classes = [];
+  method-of = [];
+  instances =
+      instance-of [] int ((twice, dict-rec eq int 0) ∷ (twice, dict-rec eq int 1) ∷ []) ∷ instance-of [] int [] ∷ [];
+}
 
 unchanged : Ty → Dicts → ℕ → Dict
 unchanged t vs i = dict eq t i (outward int var var) vs
@@ -42,11 +46,15 @@ first-picked = picks refl refl (a-record refl (taken [] _) refl)
 -- An instance whose field is a record applied to a second dictionary: inside that record, context 0 is that argument
 -- and not the one of the record storing it.
 abbrev stored : ClassEnv
-stored = record { classes = []; method-of = []; instances =
-    instance-of (pred eq bool ∷ []) int ((twice, dict-app (dict-rec eq int 1) (dict-rec eq int 2 ◃ cnil)) ∷ [])
-    ∷ instance-of (pred eq bool ∷ []) int ((twice, cdict (ctx eq 0)) ∷ [])
-    ∷ instance-of [] int []
-    ∷ [] }
+stored = record {
+  classes = [];
+  method-of = [];
+  instances =
+      instance-of (pred eq bool ∷ []) int ((twice, dict-app (dict-rec eq int 1) (dict-rec eq int 2 ◃ cnil)) ∷ [])
+      ∷ instance-of (pred eq bool ∷ []) int ((twice, cdict (ctx eq 0)) ∷ [])
+      ∷ instance-of [] int []
+      ∷ [];
+}
 
 outer : Dict
 outer = unchanged int (_and_ (unchanged bool alone 9) alone) 0
@@ -54,7 +62,8 @@ outer = unchanged int (_and_ (unchanged bool alone 9) alone) 0
 -- The field of the outer record, and the same field of what that gives.
 own-argument : (w : Dict) × Picks stored outer twice w × Picks stored w twice (unchanged int alone 2)
 unfolding outer unchanged first nth nth-dict field-of same-field same-name called quoted packed ℕ-discrete sub int outward occurs
-own-argument =
-    ( unchanged int (_and_ (unchanged int alone 2) alone) 1
-    , picks refl refl (applied-to refl (taken _ _) (and-more (a-record refl (taken [] []) refl) no-more) refl)
-    , picks refl refl (a-name refl))
+own-argument = (
+  unchanged int (_and_ (unchanged int alone 2) alone) 1,
+  picks refl refl (applied-to refl (taken _ _) (and-more (a-record refl (taken [] []) refl) no-more) refl),
+  picks refl refl (a-name refl),
+)

@@ -47,17 +47,17 @@ bound = bind "ab" applied int-8
 
 -- What it says.
 abbrev every-said : File
-every-said = record
-  { names = called "ab" ∷ []
-  ; types = v "ab" ∷ c "ab" (v "ab" ◂ nil) ∷ arrow (v "ab") (c "ab" (v "ab" ◂ nil)) ∷ []
-  ; exprs = ev "ab" ∷ int-8 ∷ ebool true ∷ lam "ab" (ebool true) ∷ applied ∷ bound ∷ []
-  ; decls =
+every-said = record {
+  names = called "ab" ∷ [];
+  types = v "ab" ∷ c "ab" (v "ab" ◂ nil) ∷ arrow (v "ab") (c "ab" (v "ab" ◂ nil)) ∷ [];
+  exprs = ev "ab" ∷ int-8 ∷ ebool true ∷ lam "ab" (ebool true) ∷ applied ∷ bound ∷ [];
+  decls =
       class "ab" "ab" ("ab" ∷ []) (sig "ab" (arrow (v "ab") (c "ab" (v "ab" ◂ nil))) ∷ []) (body "ab" bound ∷ [])
       ∷ instance (at "ab" (v "ab") ∷ []) "ab" (c "ab" (v "ab" ◂ nil)) (body "ab" bound ∷ [])
       ∷ define "ab" bound
       ∷ check bound
-      ∷ []
-  }
+      ∷ [];
+}
 
 every-read : read every ≡ got every-said 103 []
 unfolding everything every rest notation

@@ -104,4 +104,4 @@ Demand3 = (ck : Checker) → Reached ck
     → (c : Name) (a : Ty) (n left : ℕ) (e : Core) → resolve (ck .class-env) [] (pred c a) n ≡ done e left
     → (v : Dict) × Reads (ck .class-env) alone var e v
     × ((z : Name) (p : Way (ck .class-env) c z) (ci : ClassInfo) (g : Name × Ty) → class-of (ck .class-env) z ≡ some ci → List·Memᴰ g (ci .sigs)
-      → (u : Dict) × Follows (ck .class-env) c z p v u × Found (ck .class-env) z a (g .0) u)
+    → (u : Dict) × Follows (ck .class-env) c z p v u × Found (ck .class-env) z a (g .0) u)

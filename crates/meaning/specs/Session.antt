@@ -101,8 +101,11 @@ no-room budget work binders ck = ltb work (64 * (budget + kept ck)) || ltb binde
 
 -- A declaration: LIMIT, ROOM, REDECLARED, then the order of 000.
 unfoldable pub declare : (budget work binders : ℕ) → Decl → Checker → Answer
-declare budget work binders k ck = elim (over-limit budget) [ true ↦ refuses ck (limit 0) 0 | false ↦
-    elim (no-room budget work binders ck) [ true ↦ refuses ck room 0 | false ↦ run-decl budget ck k ] ]
+declare budget work binders k ck = elim (over-limit budget) [
+  | true ↦ refuses ck (limit 0) 0
+  | false ↦
+      elim (no-room budget work binders ck) [ true ↦ refuses ck room 0 | false ↦ run-decl budget ck k ]
+]
 
 -- The answers of declarations one after the other.
 unfoldable pub session : (budget work binders : ℕ) → List Decl → Checker → List Answer

@@ -111,7 +111,7 @@ defaults-say ce ci a ms (g ∷ gs) st n =
     either-run (Defaulted ms (g ∷ gs)) (writes ms (g .0)) _ _ st n
     (λ t. weaken-run (Defaulted ms gs) (Defaulted ms (g ∷ gs)) (default-cores ce ci a ms gs st n) (defaults-say ce ci a ms gs st n) λ fs h. not-defaulted ms g gs fs t h)
     (λ f. run-past (Defaulted ms (g ∷ gs)) _ _ λ e st₁ n₁.
-      run-then (Defaulted ms gs) (Defaulted ms (g ∷ gs)) _ _ (defaults-say ce ci a ms gs st₁ n₁) λ es h st₂ n₂. one-defaulted ms g gs e es h)
+    run-then (Defaulted ms gs) (Defaulted ms (g ∷ gs)) _ _ (defaults-say ce ci a ms gs st₁ n₁) λ es h st₂ n₂. one-defaulted ms g gs e es h)
 
 -- ## its superclasses
 -- The first field of each superclass holds a derivation: one listed twice has two such fields.
@@ -180,11 +180,11 @@ instance-says ce k st n =
     run-then (Written (k .methods)) (Added ce k) _ _ (methods-say ce ci (singleton (ci .tyvar) (k .head .ty)) gs (k .methods) st₂ n₂) λ own h st₃ n₃.
     run-then (Defaulted (k .methods) (ci .sigs)) (Added ce k) _ _ (defaults-say ce ci (k .head .ty) (k .methods) (ci .sigs) st₃ n₃) λ defaults d st₄ n₄.
     run-then (Derived ce gs (ci .name) (k .head .ty) (ci .supers)) (Added ce k) _ _
-      (lift-says _ (super-cores ce ci (k .head .ty) gs (ci .supers) n₄) st₄ (supers-say ce ci (k .head .ty) gs (ci .supers) n₄)) λ supers s st₅ n₅.
+    (lift-says _ (super-cores ce ci (k .head .ty) gs (ci .supers) n₄) st₄ (supers-say ce ci (k .head .ty) gs (ci .supers) n₄)) λ supers s st₅ n₅.
     run-past (Added ce k) _ _ λ v st₆ n₆.
     lift-says (Added ce k) (add-instance ce (made own defaults supers) n₆) st₆
-      (weaken (λ ce′. ce′ ≡ with-instance (made own defaults supers) ce) Any (Added ce k) Any (add-instance ce (made own defaults supers) n₆)
-        (add-instance-says ce (made own defaults supers) n₆) (λ ce′ e. added ci known own h defaults d supers s ce′ e) λ r x. x)
+    (weaken (λ ce′. ce′ ≡ with-instance (made own defaults supers) ce) Any (Added ce k) Any (add-instance ce (made own defaults supers) n₆)
+    (add-instance-says ce (made own defaults supers) n₆) (λ ce′ e. added ci known own h defaults d supers s ce′ e) λ r x. x)
   where
     gs : List Given
     gs = context-givens (k .head) (k .context)
@@ -194,7 +194,13 @@ instance-says ce k st n =
 
     added : (ci : ClassInfo) → class-of ce (k .head .class) ≡ some ci → (own : List (Field × Core)) → Written (k .methods) own → (defaults : List (Field × Core)) → Defaulted (k .methods) (ci .sigs) defaults
         → (supers : List (Field × Core)) → Derived ce gs (ci .name) (k .head .ty) (ci .supers) supers → (ce′ : ClassEnv) → ce′ ≡ with-instance (made own defaults supers) ce → Added ce k ce′
-    added ci known own h defaults d supers s ce′ e = record
-      { inst = made own defaults supers; info = ci; becomes = e; context-is = refl; head-is = refl; has-class = known
-      ; has-methods = all-methods (k .methods) (ci .sigs) own defaults supers h d
-      ; has-supers = all-supers ce gs (ci .name) (k .head .ty) (ci .supers) own defaults supers (h .0) (d .0) s }
+    added ci known own h defaults d supers s ce′ e = record {
+      inst = made own defaults supers;
+      info = ci;
+      becomes = e;
+      context-is = refl;
+      head-is = refl;
+      has-class = known;
+      has-methods = all-methods (k .methods) (ci .sigs) own defaults supers h d;
+      has-supers = all-supers ce gs (ci .name) (k .head .ty) (ci .supers) own defaults supers (h .0) (d .0) s;
+    }

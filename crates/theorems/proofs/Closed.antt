@@ -40,14 +40,25 @@ primitives-closed = (refl, (refl, (refl, (refl, (refl, (refl, (refl, tt)))))))
 
 primitives-sorted : Sorted names primitives
 unfolding primitives name-before called packed quoted ltb decLt
-primitives-sorted =
-    ((refl, (refl, (refl, (refl, (refl, (refl, tt)))))),
-    ((refl, (refl, (refl, (refl, (refl, tt))))),
-    ((refl, (refl, (refl, (refl, tt)))),
-    ((refl, (refl, (refl, tt))),
-    ((refl, (refl, tt)),
-    ((refl, tt),
-    (tt, tt)))))))
+primitives-sorted = (
+  (refl, (refl, (refl, (refl, (refl, (refl, tt)))))),
+  (
+    (refl, (refl, (refl, (refl, (refl, tt))))),
+    (
+      (refl, (refl, (refl, (refl, tt)))),
+      (
+        (refl, (refl, (refl, tt))),
+        (
+          (refl, (refl, tt)),
+          (
+            (refl, tt),
+            (tt, tt),
+          ),
+        ),
+      ),
+    ),
+  ),
+)
 
 each-closed : (env : Env) → EachClosed env → AllClosed env
 unfolding get

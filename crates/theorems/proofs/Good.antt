@@ -19,7 +19,7 @@ pub data Good (ce : ClassEnv) (P : Ty → Type 0) : Name → Dict → Type 0 whe
       → sub θ (inst .head .ty) ≡ a
       → P a
       → ((ci : ClassInfo) → class-of ce c ≡ some ci → (g : Name × Ty) → List·Memᴰ g (ci .sigs)
-        → (f : Field × Core) × (field-of (inst .methods) (method (g .0)) ≡ some f))
+      → (f : Field × Core) × (field-of (inst .methods) (method (g .0)) ≡ some f))
       → (w : (ci : ClassInfo) → class-of ce c ≡ some ci → (s : Name) → List·Memᴰ s (ci .supers) → Dict)
       → ((ci : ClassInfo) (k : class-of ce c ≡ some ci) (s : Name) (h : List·Memᴰ s (ci .supers)) → Picks ce (dict c a i θ vs) (super c s) (w ci k s h))
       → ((ci : ClassInfo) (k : class-of ce c ≡ some ci) (s : Name) (h : List·Memᴰ s (ci .supers)) → Good ce P s (w ci k s h))
@@ -38,9 +38,11 @@ pub way-found : {ce : ClassEnv} {c z : Name} {a : Ty} {v : Dict} → Good ce (At
     → (ci : ClassInfo) (g : Name × Ty) → class-of ce z ≡ some ci → List·Memᴰ g (ci .sigs)
     → (u : Dict) × Follows ce c z p v u × Found ce z a (g .0) u
 way-found (good {c = c} {a = b} {i = i} {θ = θ} {vs = vs} {inst = inst} at class fills same methods w ps gs) here ci g k m =
-    let f = methods ci k g m in
-    ( dict c b i θ vs, stops
-    , record { number = i; inst = inst; fills = θ; arguments = vs; field = f .0; is-record = (λ j. dict c (same j) i θ vs); accepted = at; right-class = class; right-type = fills ∙ same; has-field = f .1 })
+    let f = methods ci k g m in (
+      dict c b i θ vs,
+      stops,
+      record { number = i; inst = inst; fills = θ; arguments = vs; field = f .0; is-record = (λ j. dict c (same j) i θ vs); accepted = at; right-class = class; right-type = fills ∙ same; has-field = f .1 },
+    )
 way-found (good at class fills same methods w ps gs) (up {s = s} {ci = cj} known h p) ci g k m =
     let r = way-found (gs cj known s h) p ci g k m in
     (r .0, goes (ps cj known s h) (r .1), r .2)

@@ -51,15 +51,17 @@ record Grows (ce ce′ : ClassEnv) : Type 0 where
 
 -- A sound instance stays sound: what stood then still stands.
 still-sound : (ce ce′ : ClassEnv) (i : ℕ) (inst : InstanceInfo) → Grows ce ce′ → SoundAt ce i inst → SoundAt ce′ i inst
-still-sound ce ce′ i inst g s = record
-  { then-stood = s .then-stood
-  ; older = record
-    { insts = λ j x e. let h = s .older .insts j x e in (g .insts j x (h .0), h .1)
-    ; infos = λ c ci e. g .infos c ci (s .older .infos c ci e) }
-  ; info = s .info
-  ; has-class = g .infos (inst .head .class) (s .info) (s .has-class)
-  ; has-methods = s .has-methods
-  ; has-supers = s .has-supers }
+still-sound ce ce′ i inst g s = record {
+  then-stood = s .then-stood;
+  older = record {
+    insts = λ j x e. let h = s .older .insts j x e in (g .insts j x (h .0), h .1);
+    infos = λ c ci e. g .infos c ci (s .older .infos c ci e);
+  };
+  info = s .info;
+  has-class = g .infos (inst .head .class) (s .info) (s .has-class);
+  has-methods = s .has-methods;
+  has-supers = s .has-supers;
+}
 
 -- ## a class
 class-grows : (k : ClassDecl) (ce : ClassEnv) → class-of ce (k .name) ≡ none → Grows ce (with-class k ce)
@@ -86,9 +88,10 @@ same-instances k ce = refl
 
 -- A class under a new name harms nothing.
 pub class-sound : (k : ClassDecl) (ce : ClassEnv) → class-of ce (k .name) ≡ none → Sound ce → Sound (with-class k ce)
-class-sound k ce free s = record
-  { names-right = class-names k ce s
-  ; at = λ i inst e. still-sound ce (with-class k ce) i inst (class-grows k ce free) (s .at i inst (ap (λ (xs : List InstanceInfo). nth xs i) (sym (same-instances k ce)) ∙ e)) }
+class-sound k ce free s = record {
+  names-right = class-names k ce s;
+  at = λ i inst e. still-sound ce (with-class k ce) i inst (class-grows k ce free) (s .at i inst (ap (λ (xs : List InstanceInfo). nth xs i) (sym (same-instances k ce)) ∙ e));
+}
 
 -- ## an instance
 instance-grows : (x : InstanceInfo) (ce : ClassEnv) → Grows ce (with-instance x ce)
@@ -109,16 +112,17 @@ newest-supers ce k ce′ s a =
     subst (λ (h : Pred). Supers ce (a .info) (a .inst .methods) (a .inst .context) h) (sym (a .head-is))
     (subst (λ (c : List Pred). Supers ce (a .info) (a .inst .methods) c (k .head)) (sym (a .context-is))
     (subst (λ (c : Name). Derived ce (context-givens (k .head) (k .context)) c (k .head .ty) (a .info .supers) (a .inst .methods))
-      (s .names-right (k .head .class) (a .info) (a .has-class)) (a .has-supers)))
+    (s .names-right (k .head .class) (a .info) (a .has-class)) (a .has-supers)))
 
 newest-sound : (ce : ClassEnv) (k : InstanceDecl) (ce′ : ClassEnv) → Sound ce → (a : Added ce k ce′) → SoundAt (with-instance (a .inst) ce) (count (ce .instances)) (a .inst)
-newest-sound ce k ce′ s a = record
-  { then-stood = ce
-  ; older = just-before (a .inst) ce
-  ; info = a .info
-  ; has-class = instance-grows (a .inst) ce .infos (a .inst .head .class) (a .info) (ap (λ (h : Pred). class-of ce (h .class)) (a .head-is) ∙ a .has-class)
-  ; has-methods = a .has-methods
-  ; has-supers = newest-supers ce k ce′ s a }
+newest-sound ce k ce′ s a = record {
+  then-stood = ce;
+  older = just-before (a .inst) ce;
+  info = a .info;
+  has-class = instance-grows (a .inst) ce .infos (a .inst .head .class) (a .info) (ap (λ (h : Pred). class-of ce (h .class)) (a .head-is) ∙ a .has-class);
+  has-methods = a .has-methods;
+  has-supers = newest-supers ce k ce′ s a;
+}
 
 same-classes : (x : InstanceInfo) (ce : ClassEnv) (c : Name) → class-of (with-instance x ce) c ≡ class-of ce c
 unfolding with-instance
@@ -142,6 +146,7 @@ instance-sound ce k ce′ s a = subst Sound (sym (a .becomes)) whole
         (subst (λ (x : InstanceInfo). SoundAt new-env (count (ce .instances)) x) (sym (h .1)) (newest-sound ce k ce′ s a))
 
     whole : Sound new-env
-    whole = record
-      { names-right = λ c ci e. s .names-right c ci (sym (same-classes (a .inst) ce c) ∙ e)
-      ; at = λ i inst e. one i inst (nth-last (ce .instances) (a .inst) i inst (ap (λ (xs : List InstanceInfo). nth xs i) (sym (one-instance-more (a .inst) ce)) ∙ e)) }
+    whole = record {
+      names-right = λ c ci e. s .names-right c ci (sym (same-classes (a .inst) ce c) ∙ e);
+      at = λ i inst e. one i inst (nth-last (ce .instances) (a .inst) i inst (ap (λ (xs : List InstanceInfo). nth xs i) (sym (one-instance-more (a .inst) ce)) ∙ e));
+    }

@@ -117,7 +117,7 @@ preds-made vs s [] k h = made-pure MadePending [] tt
 preds-made vs s (p ∷ ps) k h =
     made-then _ _ fresh-dictvar _ _ _ dictvar-made λ d z.
     made-lifted (λ (q : Pred). MadeTy (q .ty)) _ (apply-pred s p) _ _ (λ n. weaken _ _ _ _ (apply-pred s p n) (pred-says s p n)
-        (λ q e. subst (λ (q : Pred). MadeTy (q .ty)) (sym e) (fresh-fills vs s (p .ty) k (λ x o. h x (or-left (occurs x (p .ty)) (occurs-preds x ps) o)))) (λ r z. tt)) λ q i.
+    (λ q e. subst (λ (q : Pred). MadeTy (q .ty)) (sym e) (fresh-fills vs s (p .ty) k (λ x o. h x (or-left (occurs x (p .ty)) (occurs-preds x ps) o)))) (λ r z. tt)) λ q i.
     made-then _ _ (instantiate-preds s ps) _ _ _ (preds-made vs s ps k (λ x o. h x (or-right (occurs x (p .ty)) (occurs-preds x ps) o))) λ qs j.
     made-pure MadePending _ (i, j)
 
@@ -127,9 +127,9 @@ unfolding instantiate
 instantiate-made c h =
     made-then _ _ (fresh-all (c .vars)) _ _ _ (fresh-all-made (c .vars)) λ s k.
     made-lifted MadeTy _ (apply-type s (c .qual .ty)) _ _ (λ n. weaken _ _ _ _ (apply-type s (c .qual .ty) n) (apply-says depth s (c .qual .ty) n)
-        (λ u e. subst MadeTy (sym e) (fresh-fills (c .vars) s (c .qual .ty) k (λ x o. unbound-made c h x (or-right (occurs-preds x (c .qual .preds)) (occurs x (c .qual .ty)) o)))) (λ r z. tt)) λ u i.
+    (λ u e. subst MadeTy (sym e) (fresh-fills (c .vars) s (c .qual .ty) k (λ x o. unbound-made c h x (or-right (occurs-preds x (c .qual .preds)) (occurs x (c .qual .ty)) o)))) (λ r z. tt)) λ u i.
     made-then _ _ (instantiate-preds s (c .qual .preds)) _ _ _
-        (preds-made (c .vars) s (c .qual .preds) k (λ x o. unbound-made c h x (or-left (occurs-preds x (c .qual .preds)) (occurs x (c .qual .ty)) o))) λ ps j.
+    (preds-made (c .vars) s (c .qual .preds) k (λ x o. unbound-made c h x (or-left (occurs-preds x (c .qual .preds)) (occurs x (c .qual .ty)) o))) λ ps j.
     made-pure (λ (r : Ty × Pending). MadeTy (r .0) × MadePending (r .1)) _ (i, j)
 
 -- ## inference

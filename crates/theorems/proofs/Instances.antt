@@ -76,7 +76,7 @@ module _ (R : Refusal → Type 0) (six : R out-of-steps) (seven : R too-deep) wh
   unfolding match-pred
   pred-match-says h p c n = if-says _ _ (yes? (same-name (h .class) (p .class))) _ _ n
       (λ e. both-say _ _ _ _ (match-ty (h .ty) (p .ty) n) (match-says depth (h .ty) (p .ty) n)
-        (match-refuses (λ r. Limit r → R r) (λ l. six) (λ l. seven) (λ a b l. absurd (l tt)) depth (h .ty) (p .ty) n))
+      (match-refuses (λ r. Limit r → R r) (λ l. six) (λ l. seven) (λ a b l. absurd (l tt)) depth (h .ty) (p .ty) n))
       (λ e. absurd (yes?-false (same-name (h .class) (p .class)) e c))
 
   -- One instance of the goal's class, then the others.
@@ -94,8 +94,8 @@ module _ (R : Refusal → Type 0) (six : R out-of-steps) (seven : R too-deep) wh
   inst-ends k [] p n = λ j i e. absurd (none-some i e)
   inst-ends k (i ∷ insts) p n = if-says _ _ (yes? (same-name (i .head .class) (p .class))) _ _ n
       (λ e. let c = yes?-true (same-name (i .head .class) (p .class)) e in
-        after-says _ _ _ _ (settled (match-pred (i .head) p n)) _ (attempt-says _ _ (match-pred (i .head) p n) (pred-match-says (i .head) p c n)) (λ r z. z .1 .1 (z .0)) λ r x m.
-        chosen-says k i insts p c r x (by-inst (suc k) insts p) (λ j. inst-ends (suc k) insts p j) m)
+      after-says _ _ _ _ (settled (match-pred (i .head) p n)) _ (attempt-says _ _ (match-pred (i .head) p n) (pred-match-says (i .head) p c n)) (λ r z. z .1 .1 (z .0)) λ r x m.
+      chosen-says k i insts p c r x (by-inst (suc k) insts p) (λ j. inst-ends (suc k) insts p j) m)
       (λ e. weaken _ _ _ _ (by-inst (suc k) insts p n) (inst-ends (suc k) insts p n) (later k i insts p (λ c. absurd (yes?-false (same-name (i .head .class) (p .class)) e c))) (λ r z. z))
 
 -- The search finds the first instance whose head matches, if any, unless it stops at a limit.

@@ -100,7 +100,7 @@ module _ (ce : ClassEnv) (u : Ty) (ps : Pending) (e : Core) (made-ty : MadeTy u)
   -- What generalization renames, whatever the two steps before it kept.
   pub generalize-renames-made : (env : Env) (n : ℕ)
       → Says (λ r. MadeVars (without (ftv-qual (qual (preds-of (r .0)) u)) (env-ftv env))) Any
-          (after (reduce ce [] (preds-of ps) n) (λ o. simplified ce ps e (keep (is-own (ftv-type u []) (env-ftv env)) (binders-of (o .1) ps)) (o .0)))
+      (after (reduce ce [] (preds-of ps) n) (λ o. simplified ce ps e (keep (is-own (ftv-type u []) (env-ftv env)) (binders-of (o .1) ps)) (o .0)))
   generalize-renames-made env n =
       and-then _ _ _ (reduce ce [] (preds-of ps) n) _ (reduce-made ce (preds-of ps) n made-preds) λ o h m.
       weaken _ _ _ _ (simplified ce ps e (keep (is-own (ftv-type u []) (env-ftv env)) (binders-of (o .1) ps)) (o .0) m)

@@ -128,8 +128,11 @@ module _ (ren : Renamer) where
 
   -- `declare`.
   unfoldable pub declare-by : (budget work binders : ℕ) → Decl → Checker → Answer
-  declare-by budget work binders k ck = elim (over-limit budget) [ true ↦ refuses ck (limit 0) 0 | false ↦
-      elim (no-room budget work binders ck) [ true ↦ refuses ck room 0 | false ↦ run-by budget ck k ] ]
+  declare-by budget work binders k ck = elim (over-limit budget) [
+    | true ↦ refuses ck (limit 0) 0
+    | false ↦
+        elim (no-room budget work binders ck) [ true ↦ refuses ck room 0 | false ↦ run-by budget ck k ]
+  ]
 
   -- `session`.
   unfoldable pub session-by : (budget work binders : ℕ) → List Decl → Checker → List Answer

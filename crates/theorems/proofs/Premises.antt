@@ -108,9 +108,11 @@ pub needed : Reached (declared crossing new)
     × (resolve crossed [] (at "Eq" (pair int int)) 100 ≡ refused (no-instance (at "Rare" int)) 94)
     × Derives crossed [] (at "Eq" (pair int int)) (dict-rec (called "Eq") (pair int int) 1)
 unfolding everything declared sub
-needed =
-    ( declared-reached crossing new at-first, refl
-    , by-instance 1 {θ = a-to-int} refl (record { class-is = refl; head-is = refl; others-stay = stays }) none-left refl)
+needed = (
+  declared-reached crossing new at-first,
+  refl,
+  by-instance 1 {θ = a-to-int} refl (record { class-is = refl; head-is = refl; others-stay = stays }) none-left refl,
+)
 
 -- So without the premise demand 2 is false.
 pub incomplete : Complete crossed → ⊥

@@ -43,14 +43,14 @@ unfolding declare-class
 class-keeps budget ck k (some ci) e s = refuses-keeps ck redeclared 0 s
 class-keeps budget ck k none e s = answer-keeps budget ck _ (λ ce. ce) (process-class-decl (ck .class-env) k (ck .state) budget) s
     (weaken-run (λ ce. ce ≡ with-class k (ck .class-env)) Sound (process-class-decl (ck .class-env) k (ck .state) budget) (class-says (ck .class-env) k (ck .state) budget)
-      λ ce i. subst Sound (sym i) (class-sound k (ck .class-env) e s))
+    λ ce i. subst Sound (sym i) (class-sound k (ck .class-env) e s))
 
 run-keeps : (budget : ℕ) (ck : Checker) (k : Decl) → Sound (ck .class-env) → Keeps (run-decl budget ck k)
 unfolding run-decl
 run-keeps budget ck (class-decl k) s = class-keeps budget ck k (class-of (ck .class-env) (k .name)) refl s
 run-keeps budget ck (instance-decl k) s = answer-keeps budget ck _ (λ ce. ce) (process-instance-decl (ck .class-env) k (ck .state) budget) s
     (weaken-run (Added (ck .class-env) k) Sound (process-instance-decl (ck .class-env) k (ck .state) budget) (instance-says (ck .class-env) k (ck .state) budget)
-      λ ce a. instance-sound (ck .class-env) k ce s a)
+    λ ce a. instance-sound (ck .class-env) k ce s a)
 run-keeps budget ck (let-decl x e) s = answer-same budget ck _ (process-let-decl (ck .class-env) x e (ck .state) budget) s
 run-keeps budget ck (check-decl e) s = answer-same budget ck _ (check-expr (ck .class-env) e (ck .state) budget) s
 

@@ -56,50 +56,51 @@ Answered ce gs p none = (is-head-normal (p .ty) ≡ true) × NotGiven ce gs p
 with-dictionary : (ce : ClassEnv) (gs : List Given) (seen : List Pred) (p : Pred) (e : Core) (o : List Discharged × List Pred)
     → Reduced ce gs seen o → Derives ce gs p e → Reduced ce gs (seen ++ (p ∷ [])) (o .0 ++ ((p, e) ∷ []), o .1)
 with-dictionary ce gs seen p e o r d = record {
-    distinct = r .distinct;
-    variable-typed = r .variable-typed;
-    not-given = r .not-given;
-    from-inputs = λ q m. Memᴰ·append-left (p ∷ []) (r .from-inputs q m);
-    discharged = λ q f m. snoc-cases (λ (x : Discharged). Derives ce gs (x .0) (x .1) × List·Memᴰ (x .0) (seen ++ (p ∷ []))) (o .0) (p, e)
-        (λ x i. let y = r .discharged (x .0) (x .1) i in (y .0, Memᴰ·append-left (p ∷ []) (y .1)))
-        (d, Memᴰ·append-right seen (List·Memᴰ·head refl)) (q, f) m;
-    entails = snoc-cases (λ (q : Pred). (f : Core) × Derives ce (gs ++ assumed (o .1)) q f) seen p (r .entails)
-        (e, derives-more (λ g m. Memᴰ·append-left (assumed (o .1)) m) d);
-  }
+  distinct = r .distinct;
+  variable-typed = r .variable-typed;
+  not-given = r .not-given;
+  from-inputs = λ q m. Memᴰ·append-left (p ∷ []) (r .from-inputs q m);
+  discharged = λ q f m. snoc-cases (λ (x : Discharged). Derives ce gs (x .0) (x .1) × List·Memᴰ (x .0) (seen ++ (p ∷ []))) (o .0) (p, e)
+      (λ x i. let y = r .discharged (x .0) (x .1) i in (y .0, Memᴰ·append-left (p ∷ []) (y .1)))
+      (d, Memᴰ·append-right seen (List·Memᴰ·head refl)) (q, f) m;
+  entails = snoc-cases (λ (q : Pred). (f : Core) × Derives ce (gs ++ assumed (o .1)) q f) seen p (r .entails)
+      (e, derives-more (λ g m. Memᴰ·append-left (assumed (o .1)) m) d);
+}
 
 -- A turn of a predicate that is left over already.
 left-again : (ce : ClassEnv) (gs : List Given) (seen : List Pred) (p : Pred) (o : List Discharged × List Pred)
     → Reduced ce gs seen o → List·Memᴰ p (o .1) → Reduced ce gs (seen ++ (p ∷ [])) (o .0, o .1)
 left-again ce gs seen p o r i = record {
-    distinct = r .distinct;
-    variable-typed = r .variable-typed;
-    not-given = r .not-given;
-    from-inputs = λ q m. Memᴰ·append-left (p ∷ []) (r .from-inputs q m);
-    discharged = λ q f m. let y = r .discharged q f m in (y .0, Memᴰ·append-left (p ∷ []) (y .1));
-    entails = snoc-cases (λ (q : Pred). (f : Core) × Derives ce (gs ++ assumed (o .1)) q f) seen p (r .entails)
-        (cdict self, by-given (Memᴰ·append-right gs (Memᴰ·map (λ (q : Pred). (cdict self, q)) i)) itself);
-  }
+  distinct = r .distinct;
+  variable-typed = r .variable-typed;
+  not-given = r .not-given;
+  from-inputs = λ q m. Memᴰ·append-left (p ∷ []) (r .from-inputs q m);
+  discharged = λ q f m. let y = r .discharged q f m in (y .0, Memᴰ·append-left (p ∷ []) (y .1));
+  entails = snoc-cases (λ (q : Pred). (f : Core) × Derives ce (gs ++ assumed (o .1)) q f) seen p (r .entails)
+      (cdict self, by-given (Memᴰ·append-right gs (Memᴰ·map (λ (q : Pred). (cdict self, q)) i)) itself);
+}
 
 -- A turn of a predicate that is left over for the first time.
 left-over : (ce : ClassEnv) (gs : List Given) (seen : List Pred) (p : Pred) (o : List Discharged × List Pred)
     → Reduced ce gs seen o → Answered ce gs p none → ¬ List·Memᴰ p (o .1) → Reduced ce gs (seen ++ (p ∷ [])) (o .0, o .1 ++ (p ∷ []))
 left-over ce gs seen p o r a n = record {
-    distinct = distinct-snoc (o .1) p (r .distinct) n;
-    variable-typed = snoc-cases (λ (q : Pred). is-head-normal (q .ty) ≡ true) (o .1) p (r .variable-typed) (a .0);
-    not-given = snoc-cases (NotGiven ce gs) (o .1) p (r .not-given) (a .1);
-    from-inputs = snoc-cases (λ (q : Pred). List·Memᴰ q (seen ++ (p ∷ []))) (o .1) p
-        (λ q m. Memᴰ·append-left (p ∷ []) (r .from-inputs q m)) (Memᴰ·append-right seen (List·Memᴰ·head refl));
-    discharged = λ q f m. let y = r .discharged q f m in (y .0, Memᴰ·append-left (p ∷ []) (y .1));
-    entails = snoc-cases (λ (q : Pred). (f : Core) × Derives ce (gs ++ assumed (o .1 ++ (p ∷ []))) q f) seen p
-        (λ q m. let y = r .entails q m in (y .0, derives-more more (y .1)))
-        (cdict self, by-given (Memᴰ·append-right gs (Memᴰ·map (λ (q : Pred). (cdict self, q)) (Memᴰ·append-right (o .1) (List·Memᴰ·head refl)))) itself);
-  }
+  distinct = distinct-snoc (o .1) p (r .distinct) n;
+  variable-typed = snoc-cases (λ (q : Pred). is-head-normal (q .ty) ≡ true) (o .1) p (r .variable-typed) (a .0);
+  not-given = snoc-cases (NotGiven ce gs) (o .1) p (r .not-given) (a .1);
+  from-inputs = snoc-cases (λ (q : Pred). List·Memᴰ q (seen ++ (p ∷ []))) (o .1) p
+      (λ q m. Memᴰ·append-left (p ∷ []) (r .from-inputs q m)) (Memᴰ·append-right seen (List·Memᴰ·head refl));
+  discharged = λ q f m. let y = r .discharged q f m in (y .0, Memᴰ·append-left (p ∷ []) (y .1));
+  entails = snoc-cases (λ (q : Pred). (f : Core) × Derives ce (gs ++ assumed (o .1 ++ (p ∷ []))) q f) seen p
+      (λ q m. let y = r .entails q m in (y .0, derives-more more (y .1)))
+      (cdict self, by-given (Memᴰ·append-right gs (Memᴰ·map (λ (q : Pred). (cdict self, q)) (Memᴰ·append-right (o .1) (List·Memᴰ·head refl)))) itself);
+}
   where
     grows : (g : Given) → List·Memᴰ g gs ⊎ List·Memᴰ g (assumed (o .1)) → List·Memᴰ g (gs ++ assumed (o .1 ++ (p ∷ [])))
     grows g (inl i) = Memᴰ·append-left (assumed (o .1 ++ (p ∷ []))) i
     grows g (inr i) =
         let y = Memᴰ·of-map (λ (q : Pred). (cdict self, q)) (o .1) i in
         Memᴰ·append-right gs (Memᴰ·cast (sym (y .2)) (Memᴰ·map (λ (q : Pred). (cdict self, q)) (Memᴰ·append-left (p ∷ []) (y .1))))
+
     more : (g : Given) → List·Memᴰ g (gs ++ assumed (o .1)) → List·Memᴰ g (gs ++ assumed (o .1 ++ (p ∷ [])))
     more g m = grows g (List·Memᴰ·append-cases gs m)
 
@@ -117,13 +118,13 @@ discharge-keeps ce gs seen p o none r a = go (contains (o .1) p) refl
 -- At the start.
 nothing-yet : (ce : ClassEnv) (gs : List Given) → Reduced ce gs [] ([], [])
 nothing-yet ce gs = record {
-    distinct = tt;
-    variable-typed = λ q m. absurd (List·Memᴰ·not-nil m);
-    not-given = λ q m. absurd (List·Memᴰ·not-nil m);
-    from-inputs = λ q m. m;
-    discharged = λ p e m. absurd (List·Memᴰ·not-nil m);
-    entails = λ p m. absurd (List·Memᴰ·not-nil m);
-  }
+  distinct = tt;
+  variable-typed = λ q m. absurd (List·Memᴰ·not-nil m);
+  not-given = λ q m. absurd (List·Memᴰ·not-nil m);
+  from-inputs = λ q m. m;
+  discharged = λ p e m. absurd (List·Memᴰ·not-nil m);
+  entails = λ p m. absurd (List·Memᴰ·not-nil m);
+}
 
 module _ (ce : ClassEnv) where
   -- What the givens give for a variable-typed predicate.
@@ -145,7 +146,7 @@ module _ (ce : ClassEnv) where
   reduce-from-says gs seen (p ∷ ps) o r n =
       and-then _ _ _ (reduce-one ce gs p n) _ (reduce-one-says gs p n) λ a x m.
       subst (λ (l : List Pred). Says (Reduced ce gs l) Any (reduce-from ce gs ps (discharge p a o) m)) (append-assoc seen (p ∷ []) ps)
-        (reduce-from-says gs (seen ++ (p ∷ [])) ps (discharge p a o) (discharge-keeps ce gs seen p o a r x) m)
+      (reduce-from-says gs (seen ++ (p ∷ [])) ps (discharge p a o) (discharge-keeps ce gs seen p o a r x) m)
 
   -- `reduce` leaves only what it must, discharges by derivations, and loses nothing.
   pub reduce-says : (gs : List Given) (ps : List Pred) (n : ℕ) → Says (Reduced ce gs ps) Any (reduce ce gs ps n)

@@ -73,7 +73,7 @@ module _ (ren : Renamer) (agrees : OnMade ren) (ce : ClassEnv) where
     where
       go : (b : Bool) → Making Nothing (default-cores ce ci a ms gs) (defaults-by ren ce ci a ms gs)
           → Making Nothing (if b (default-cores ce ci a ms gs) (_>>=_ (default-core ce ci a (g .0)) λ e. _>>=_ (default-cores ce ci a ms gs) λ es. pure ((method (g .0), e) ∷ es)))
-              (if b (defaults-by ren ce ci a ms gs) (_>>=_ (default-by ren ce ci a (g .0)) λ e. _>>=_ (defaults-by ren ce ci a ms gs) λ es. pure ((method (g .0), e) ∷ es)))
+          (if b (defaults-by ren ce ci a ms gs) (_>>=_ (default-by ren ce ci a (g .0)) λ e. _>>=_ (defaults-by ren ce ci a ms gs) λ es. pure ((method (g .0), e) ∷ es)))
       go true ih = ih
       go false ih =
           made-then _ _ (default-core ce ci a (g .0)) _ _ _ (default-made ci a (g .0)) λ e z.

@@ -90,13 +90,15 @@ one-way ce apart gs p s c x e (by-instance i {inst} {θ} {es = es} k t ds q) = (
   where
     number : x .offset ≡ i
     number = apart (x .offset) i (c .inst) inst (x .stands) k (x .class-is ∙ sym (t .class-is)) (look (c .fills)) θ (match-fills (x .exact) ∙ sym (t .head-is))
+
     same : inst ≡ c .inst
     same = some-inj _ _ (sym k ∙ ap (nth (ce .instances)) (sym number) ∙ x .stands)
+
     go : (j : InstanceInfo) → j ≡ c .inst → Takes j p θ → DeriveAll ce gs (sub-preds θ (j .context)) es → DeriveAll ce gs (sub-preds (look (c .fills)) (c .inst .context)) es
     go j a u d =
         let v : Takes (c .inst) p θ = subst (λ (l : InstanceInfo). Takes l p θ) a u in
         subst (λ (f : Fill). DeriveAll ce gs (sub-preds f (c .inst .context)) es) (fun-ext (takes-one v (chosen-takes x)))
-          (subst (λ (l : InstanceInfo). DeriveAll ce gs (sub-preds θ (l .context)) es) a d)
+        (subst (λ (l : InstanceInfo). DeriveAll ce gs (sub-preds θ (l .context)) es) a d)
 
 -- Derivations of a list are one of the first and those of the rest.
 taken-apart : {ce : ClassEnv} {gs : List Given} (p : Pred) (ps : List Pred) (es : Cores) → DeriveAll ce gs (p ∷ ps) es → ((e : Core) × Derives ce gs p e) × ((es₁ : Cores) × DeriveAll ce gs ps es₁)

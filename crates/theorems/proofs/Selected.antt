@@ -80,7 +80,6 @@ climb o P (above {p = p} {s = s} {ci = ci} k h rest) v r (good {c = c} at class 
 
 module _ (ce old : ClassEnv) (i : ℕ) (o : Older old ce i) (earlier : AllGood ce i) (P : Ty → Type 0)
     (me : InstanceInfo) (θ : Fill) (here-is : P (sub θ (me .head .ty))) (vs : Dicts) (ok : GoodArgs ce P me vs) where
-
   -- What is asked of a dictionary for p that a record of this instance stores.
   abbrev Stored : Pred → Dict → Type 0
   Stored p w = Good ce (λ b. p .ty ≡ me .head .ty → P b) (p .class) w
@@ -104,11 +103,12 @@ module _ (ce old : ClassEnv) (i : ℕ) (o : Older old ce i) (earlier : AllGood c
   of-record : (j : ℕ) (inst : InstanceInfo) (η : Fill) (p : Pred) (es : Cores) → nth (old .instances) j ≡ some inst → Takes inst p η
       → ReadEach (sub-preds η (inst .context)) es → Read p (applied (dict-rec (p .class) (p .ty) j) es)
   of-record j inst η p es at t all =
-      let now = o .insts j inst at in
-      ( dict (p .class) (sub θ (p .ty)) j (outward (inst .head .ty) θ η) (all .0)
-      , reads-applied p j inst (now .0) t (all .1)
-      , earlier j (now .1) inst (now .0) (p .class) (t .class-is) (sub θ (p .ty)) (outward (inst .head .ty) θ η) (outward-fills (inst .head .ty) θ η (p .ty) (t .head-is))
-          (λ b. p .ty ≡ me .head .ty → P b) (λ s. subst P (sym (ap (sub θ) s)) here-is) (all .0) args)
+      let now = o .insts j inst at in (
+        dict (p .class) (sub θ (p .ty)) j (outward (inst .head .ty) θ η) (all .0),
+        reads-applied p j inst (now .0) t (all .1),
+        earlier j (now .1) inst (now .0) (p .class) (t .class-is) (sub θ (p .ty)) (outward (inst .head .ty) θ η) (outward-fills (inst .head .ty) θ η (p .ty) (t .head-is))
+            (λ b. p .ty ≡ me .head .ty → P b) (λ s. subst P (sym (ap (sub θ) s)) here-is) (all .0) args,
+      )
     where
       args : GoodArgs ce (λ b. p .ty ≡ me .head .ty → P b) inst (all .0)
       args k q n =
@@ -145,7 +145,7 @@ record-good : (ce : ClassEnv) (i : ℕ) → AllGood ce i → (inst : InstanceInf
     → (P : Ty → Type 0) → P a → (vs : Dicts) → GoodArgs ce P inst vs → Good ce P c (dict c a i θ vs)
 record-good ce i earlier inst at x c class a θ fills P here-is vs ok =
     good at class fills here-is methods (λ ci k s h. higher ci k s h .0)
-      (λ ci k s h. picks at (field ci k s h) (higher ci k s h .1)) (λ ci k s h. weaker (λ b f. f refl) (higher ci k s h .2))
+    (λ ci k s h. picks at (field ci k s h) (higher ci k s h .1)) (λ ci k s h. weaker (λ b f. f refl) (higher ci k s h .2))
   where
     is-info : (ci : ClassInfo) → class-of ce c ≡ some ci → x .info ≡ ci
     is-info ci k = some-inj (x .info) ci (sym (x .has-class) ∙ ap (class-of ce) class ∙ k)
@@ -190,5 +190,5 @@ pub derived-good : (ce : ClassEnv) → Sound ce → (p : Pred) (e : Core) → De
 unfolding context-binders nth
 derived-good ce so p e d =
     let r = reads-good ce ce (count (ce .instances)) (record { insts = λ j inst at. (at, nth-below (ce .instances) j inst at); infos = λ c ci k. k })
-          (all-records-good ce so (count (ce .instances))) (At (p .ty)) (seeker p) var (sub-var (p .ty)) alone (λ j q n. absurd (none-some q n)) d in
+    (all-records-good ce so (count (ce .instances))) (At (p .ty)) (seeker p) var (sub-var (p .ty)) alone (λ j q n. absurd (none-some q n)) d in
     (r .0, r .1, weaker (λ b f. f refl) (r .2))

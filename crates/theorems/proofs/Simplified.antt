@@ -63,33 +63,35 @@ sorted-out-keeps : (ce : ClassEnv) (bs : List Binder) (b : Binder) (rest : List 
     → Sorting ce bs (b ∷ rest) o → Replaces ce (o .0 ++ rest) (b .1) a → Sorting ce bs rest (sorted-out b a o)
 unfolding sorted-out
 sorted-out-keeps ce bs b rest o (some e) s (c, m, x, h) = record {
-    kept-from = s .kept-from;
-    rest-from = λ c i. s .rest-from c (List·Memᴰ·tail i);
-    all-there = λ c i. go c (s .all-there c i);
-    replaced = snoc-cases (λ (r : Removed). (p : Pred) × List·Memᴰ (r .0, p) bs × Projects ce bs p (r .1)) (o .1) (b .0, e)
-        (s .replaced) (b .1, s .rest-from b (List·Memᴰ·head refl), (c, at-hand ce bs b rest o s c m, x, h));
-  }
+  kept-from = s .kept-from;
+  rest-from = λ c i. s .rest-from c (List·Memᴰ·tail i);
+  all-there = λ c i. go c (s .all-there c i);
+  replaced = snoc-cases (λ (r : Removed). (p : Pred) × List·Memᴰ (r .0, p) bs × Projects ce bs p (r .1)) (o .1) (b .0, e)
+      (s .replaced) (b .1, s .rest-from b (List·Memᴰ·head refl), (c, at-hand ce bs b rest o s c m, x, h));
+}
   where
     next : (c : Binder) → (c ≡ b) ⊎ List·Memᴰ c rest
         → (List·Memᴰ c (o .0) ⊎ ((f : Core) × List·Memᴰ (c .0, f) (o .1 ++ ((b .0, e) ∷ [])))) ⊎ List·Memᴰ c rest
     next c (inl i) = inl (inr (e, Memᴰ·append-right (o .1) (List·Memᴰ·head (λ j. (i j .0, e)))))
     next c (inr i) = inr i
+
     go : (c : Binder) → (List·Memᴰ c (o .0) ⊎ ((f : Core) × List·Memᴰ (c .0, f) (o .1))) ⊎ List·Memᴰ c (b ∷ rest)
         → (List·Memᴰ c (o .0) ⊎ ((f : Core) × List·Memᴰ (c .0, f) (o .1 ++ ((b .0, e) ∷ [])))) ⊎ List·Memᴰ c rest
     go c (inl (inl i)) = inl (inl i)
     go c (inl (inr (f, i))) = inl (inr (f, Memᴰ·append-left ((b .0, e) ∷ []) i))
     go c (inr i) = next c (List·Memᴰ·cases-cons i)
 sorted-out-keeps ce bs b rest o none s x = record {
-    kept-from = snoc-cases (λ (c : Binder). List·Memᴰ c bs) (o .0) b (s .kept-from) (s .rest-from b (List·Memᴰ·head refl));
-    rest-from = λ c i. s .rest-from c (List·Memᴰ·tail i);
-    all-there = λ c i. go c (s .all-there c i);
-    replaced = s .replaced;
-  }
+  kept-from = snoc-cases (λ (c : Binder). List·Memᴰ c bs) (o .0) b (s .kept-from) (s .rest-from b (List·Memᴰ·head refl));
+  rest-from = λ c i. s .rest-from c (List·Memᴰ·tail i);
+  all-there = λ c i. go c (s .all-there c i);
+  replaced = s .replaced;
+}
   where
     next : (c : Binder) → (c ≡ b) ⊎ List·Memᴰ c rest
         → (List·Memᴰ c (o .0 ++ (b ∷ [])) ⊎ ((f : Core) × List·Memᴰ (c .0, f) (o .1))) ⊎ List·Memᴰ c rest
     next c (inl i) = inl (inl (Memᴰ·append-right (o .0) (List·Memᴰ·head i)))
     next c (inr i) = inr i
+
     go : (c : Binder) → (List·Memᴰ c (o .0) ⊎ ((f : Core) × List·Memᴰ (c .0, f) (o .1))) ⊎ List·Memᴰ c (b ∷ rest)
         → (List·Memᴰ c (o .0 ++ (b ∷ [])) ⊎ ((f : Core) × List·Memᴰ (c .0, f) (o .1))) ⊎ List·Memᴰ c rest
     go c (inl (inl i)) = inl (inl (Memᴰ·append-left (b ∷ []) i))
@@ -106,13 +108,13 @@ before ce b rest o (some e) ks (d, i, x, h) w c m = go (List·Memᴰ·append-cas
     next : (c ≡ b) ⊎ List·Memᴰ c rest → Follows ce ks (c .1)
     next (inl j) = subst (λ (c : Binder). Follows ce ks (c .1)) (sym j) (follows-trans ce ks d e (b .1) (w d i) x)
     next (inr j) = w c (Memᴰ·append-right (o .0) j)
+
     go : List·Memᴰ c (o .0) ⊎ List·Memᴰ c (b ∷ rest) → Follows ce ks (c .1)
     go (inl j) = w c (Memᴰ·append-left rest j)
     go (inr j) = next (List·Memᴰ·cases-cons j)
 before ce b rest o none ks x w c m = w c (subst (λ (l : List Binder). List·Memᴰ c l) (sym (append-assoc (o .0) (b ∷ []) rest)) m)
 
 module _ (ce : ClassEnv) where
-
   -- A hit among the binders' entries is a projection of one of them.
   replaces : (context : List Binder) (p : Pred) (a : Option Core) → Searched ce (roots context) (λ e q. yes? (same-pred q p) && not-root e) a → Replaces ce context p a
   replaces context p (some e) (g, m, (q, x, h)) =
@@ -131,8 +133,8 @@ module _ (ce : ClassEnv) where
       after-says _ _ _ _ (find-super-proof ce (o .0 ++ rest) (b .1) n) _ (givens-say ce (roots (o .0 ++ rest)) _ n) (λ r _. tt) λ a x m.
       let y = replaces (o .0 ++ rest) (b .1) a x in
       weaken _ _ _ _ (simplify-from ce rest (sorted-out b a o) m)
-        (simplify-from-says bs rest (sorted-out b a o) (sorted-out-keeps ce bs b rest o a s y) m)
-        (λ out z. (z .0, before ce b rest o a (out .0) y (z .1))) (λ r _. tt)
+      (simplify-from-says bs rest (sorted-out b a o) (sorted-out-keeps ce bs b rest o a s y) m)
+      (λ out z. (z .0, before ce b rest o a (out .0) y (z .1))) (λ r _. tt)
 
   -- `simplify-context` keeps or replaces each binder, and no predicate is lost.
   pub simplify-says : (bs : List Binder) (n : ℕ) → Says (Simplified ce bs) Any (simplify-context ce bs n)
@@ -140,19 +142,21 @@ module _ (ce : ClassEnv) where
     where
       start : Sorting ce bs bs ([], [])
       start = record {
-          kept-from = λ b m. absurd (List·Memᴰ·not-nil m);
-          rest-from = λ b m. m;
-          all-there = λ b m. inr m;
-          replaced = λ r m. absurd (List·Memᴰ·not-nil m);
-        }
+        kept-from = λ b m. absurd (List·Memᴰ·not-nil m);
+        rest-from = λ b m. m;
+        all-there = λ b m. inr m;
+        replaced = λ r m. absurd (List·Memᴰ·not-nil m);
+      }
+
       sorted : (out : List Binder × List Removed) (b : Binder) → (List·Memᴰ b (out .0) ⊎ ((e : Core) × List·Memᴰ (b .0, e) (out .1))) ⊎ List·Memᴰ b []
           → List·Memᴰ b (out .0) ⊎ ((e : Core) × List·Memᴰ (b .0, e) (out .1))
       sorted out b (inl i) = i
       sorted out b (inr m) = absurd (List·Memᴰ·not-nil m)
+
       end : (out : List Binder × List Removed) → Sorting ce bs [] out × ((c : Binder) → List·Memᴰ c bs → Follows ce (out .0) (c .1)) → Simplified ce bs out
       end out (s, w) = record {
-          kept-from = s .kept-from;
-          all-there = λ b m. sorted out b (s .all-there b m);
-          replaced = λ d e m. s .replaced (d, e) m;
-          entails = w;
-        }
+        kept-from = s .kept-from;
+        all-there = λ b m. sorted out b (s .all-there b m);
+        replaced = λ d e m. s .replaced (d, e) m;
+        entails = w;
+      }

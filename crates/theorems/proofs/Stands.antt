@@ -53,7 +53,7 @@ unfolding env-insert with-env after
 scoped-stands x c m f h k st n =
     and-then (Kept (insert names (x, c) (st .env))) Any (Kept (st .env)) (m inner n) _ (h inner n) λ r e l.
     and-then (Kept (st .env)) Any (Kept (st .env)) (env-restore x (get names x (st .env)) (r .1) l) _
-        (restores x (get names x (st .env)) (st .env) (r .1) l (keeps-restored x c (st .env) (r .1 .env) e)) λ q i j.
+    (restores x (get names x (st .env)) (st .env) (r .1) l (keeps-restored x c (st .env) (r .1 .env) e)) λ q i j.
     weaken (Kept (q .1 .env)) Any (Kept (st .env)) Any (f (r .0) (q .1) j) (k (r .0) (q .1) j) (λ p z. keeps-trans i z) (λ r z. z)
   where
     inner : State

@@ -140,10 +140,10 @@ con-says : (u : Ty → Ty → Steps Subst) → ((a b : Ty) (n : ℕ) → Says (M
 unfolding unify-con sub get or-var
 con-says u h c xs e ys n = if-says _ _ (yes? (same-name c e)) _ _ n
     (λ i. if-says _ _ (eqb (count-tys xs) (count-tys ys)) _ _ n
-      (λ j. weaken _ _ _ _ (unify-zip u xs ys empty n) (args-say u h xs ys (eqb-true _ _ j) empty n)
-        (λ out o. record { unifies = ap₂ con (yes?-true (same-name c e) i) (o .unifies); general = λ θ k. o .general θ (λ x. refl) (con-args _ _ _ _ k) })
-        (λ r z d θ k. z d θ (λ x. refl) (con-args _ _ _ _ k)))
-      (λ j d θ k. eqb-false _ _ j (sym (count-subs θ xs) ∙ ap count-tys (con-args _ _ _ _ k) ∙ count-subs θ ys)))
+    (λ j. weaken _ _ _ _ (unify-zip u xs ys empty n) (args-say u h xs ys (eqb-true _ _ j) empty n)
+    (λ out o. record { unifies = ap₂ con (yes?-true (same-name c e) i) (o .unifies); general = λ θ k. o .general θ (λ x. refl) (con-args _ _ _ _ k) })
+    (λ r z d θ k. z d θ (λ x. refl) (con-args _ _ _ _ k)))
+    (λ j d θ k. eqb-false _ _ j (sym (count-subs θ xs) ∙ ap count-tys (con-args _ _ _ _ k) ∙ count-subs θ ys)))
     (λ i d θ k. yes?-false (same-name c e) i (con-name _ _ _ _ k))
 
 -- ## Arrows

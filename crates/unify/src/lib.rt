@@ -22,7 +22,16 @@ pub enum Two {
 }
 
 // `bind` of a variable to a type that is another one.
-fn bind_other(base: &[u64], work: &mut [u64], names: &[u64], top: usize, left: usize, sp: usize, v: usize, t: usize) -> Applied
+fn bind_other(
+    base: &[u64],
+    work: &mut [u64],
+    names: &[u64],
+    top: usize,
+    left: usize,
+    sp: usize,
+    v: usize,
+    t: usize,
+) -> Applied
     requires { ⌜ length (now base) ≤ 4 * top ⌝ }
     requires { ⌜ Binds (now names) (now base ++ now work) top left sp t ⌝ }
     ensures { λ r. ⌜ GivesU 0 2 (now (names .entry)) (now (base .entry) ++ now (work .entry)) (now (base .entry) ++ now (work .exit)) top left sp
@@ -37,7 +46,16 @@ fn bind_other(base: &[u64], work: &mut [u64], names: &[u64], top: usize, left: u
 }
 
 // `bind`: a variable against itself needs nothing.
-fn bind(base: &[u64], work: &mut [u64], names: &[u64], top: usize, left: usize, sp: usize, v: usize, t: usize) -> Applied
+fn bind(
+    base: &[u64],
+    work: &mut [u64],
+    names: &[u64],
+    top: usize,
+    left: usize,
+    sp: usize,
+    v: usize,
+    t: usize,
+) -> Applied
     requires { ⌜ length (now base) ≤ 4 * top ⌝ }
     requires { ⌜ Binds (now names) (now base ++ now work) top left sp t ⌝ }
     ensures { λ r. ⌜ GivesU 0 2 (now (names .entry)) (now (base .entry) ++ now (work .entry)) (now (base .entry) ++ now (work .exit)) top left sp
@@ -57,7 +75,17 @@ fn bind(base: &[u64], work: &mut [u64], names: &[u64], top: usize, left: usize, 
 }
 
 // The k pairs that end at hi applied to x and to y.
-fn both(base: &[u64], work: &mut [u64], names: &[u64], top: usize, left: usize, hi: usize, k: usize, x: usize, y: usize) -> Two
+fn both(
+    base: &[u64],
+    work: &mut [u64],
+    names: &[u64],
+    top: usize,
+    left: usize,
+    hi: usize,
+    k: usize,
+    x: usize,
+    y: usize,
+) -> Two
     requires { ⌜ length (now base) ≤ 4 * top ⌝ }
     requires { ⌜ ReadyOne (now names) (now base ++ now work) top left hi k x y ⌝ }
     ensures { λ r. ⌜ GivesTwo (now (names .entry)) (now (base .entry) ++ now (work .entry)) (now (base .entry) ++ now (work .exit)) top left
@@ -78,7 +106,16 @@ fn both(base: &[u64], work: &mut [u64], names: &[u64], top: usize, left: usize, 
 }
 
 // The k2 pairs just below the k pairs that end at hi, composed with these.
-fn join(base: &[u64], work: &mut [u64], names: &[u64], top: usize, left: usize, hi: usize, k2: usize, k: usize) -> Applied
+fn join(
+    base: &[u64],
+    work: &mut [u64],
+    names: &[u64],
+    top: usize,
+    left: usize,
+    hi: usize,
+    k2: usize,
+    k: usize,
+) -> Applied
     requires { ⌜ length (now base) ≤ 4 * top ⌝ }
     requires { ⌜ ReadyJoin (now names) (now base ++ now work) top left hi k2 k ⌝ }
     ensures { λ r. ⌜ GivesU 0 (2 * k2 + 2 * k) (now (names .entry)) (now (base .entry) ++ now (work .entry)) (now (base .entry) ++ now (work .exit)) top left hi
@@ -89,7 +126,18 @@ fn join(base: &[u64], work: &mut [u64], names: &[u64], top: usize, left: usize, 
 }
 
 // The types x and y unified, after the k pairs that end at hi.
-fn one(base: &[u64], work: &mut [u64], names: &[u64], top: usize, left: usize, depth: usize, hi: usize, k: usize, x: usize, y: usize) -> Applied
+fn one(
+    base: &[u64],
+    work: &mut [u64],
+    names: &[u64],
+    top: usize,
+    left: usize,
+    depth: usize,
+    hi: usize,
+    k: usize,
+    x: usize,
+    y: usize,
+) -> Applied
     requires { ⌜ length (now base) ≤ 4 * top ⌝ }
     requires { ⌜ ReadyOne (now names) (now base ++ now work) top left hi k x y ⌝ }
     ensures { λ r. ⌜ GivesU 1 (2 * k) (now (names .entry)) (now (base .entry) ++ now (work .entry)) (now (base .entry) ++ now (work .exit)) top left hi
@@ -109,7 +157,18 @@ fn one(base: &[u64], work: &mut [u64], names: &[u64], top: usize, left: usize, d
 }
 
 // `unify_zip`: the lists xs and ys unified, after the k pairs that end at hi.
-fn unify_zip(base: &[u64], work: &mut [u64], names: &[u64], top: usize, left: usize, depth: usize, hi: usize, k: usize, xs: usize, ys: usize) -> Applied
+fn unify_zip(
+    base: &[u64],
+    work: &mut [u64],
+    names: &[u64],
+    top: usize,
+    left: usize,
+    depth: usize,
+    hi: usize,
+    k: usize,
+    xs: usize,
+    ys: usize,
+) -> Applied
     requires { ⌜ length (now base) ≤ 4 * top ⌝ }
     requires { ⌜ ReadyOne (now names) (now base ++ now work) top left hi k xs ys ⌝ }
     ensures { λ r. ⌜ GivesU 0 (2 * k) (now (names .entry)) (now (base .entry) ++ now (work .entry)) (now (base .entry) ++ now (work .exit)) top left hi
@@ -124,7 +183,18 @@ fn unify_zip(base: &[u64], work: &mut [u64], names: &[u64], top: usize, left: us
             Cell::Cons(y, ys2) => {
                 let r = one(base, work, names, top, left, depth, hi, k, x, y);
                 match r {
-                    Applied::Done(k2, t, l) => unify_zip(base, work, names, t, l, depth, hi, k2, xs2, ys2),
+                    Applied::Done(k2, t, l) => unify_zip(
+                        base,
+                        work,
+                        names,
+                        t,
+                        l,
+                        depth,
+                        hi,
+                        k2,
+                        xs2,
+                        ys2,
+                    ),
                     Applied::Refused(e, t, l) => Applied::Refused(e, t, l),
                 }
             }
@@ -133,7 +203,19 @@ fn unify_zip(base: &[u64], work: &mut [u64], names: &[u64], top: usize, left: us
 }
 
 // Two constructors: the names, then the numbers of arguments, then the arguments.
-fn unify_con(base: &[u64], work: &mut [u64], names: &[u64], top: usize, left: usize, depth: usize, sp: usize, c: usize, xs: usize, d: usize, ys: usize) -> Applied
+fn unify_con(
+    base: &[u64],
+    work: &mut [u64],
+    names: &[u64],
+    top: usize,
+    left: usize,
+    depth: usize,
+    sp: usize,
+    c: usize,
+    xs: usize,
+    d: usize,
+    ys: usize,
+) -> Applied
     requires { ⌜ length (now base) ≤ 4 * top ⌝ }
     requires { ⌜ ReadyU (now names) (now base ++ now work) top left sp xs ys ⌝ }
     ensures { λ r. ⌜ GivesU 0 0 (now (names .entry)) (now (base .entry) ++ now (work .entry)) (now (base .entry) ++ now (work .exit)) top left sp
@@ -151,7 +233,19 @@ fn unify_con(base: &[u64], work: &mut [u64], names: &[u64], top: usize, left: us
 }
 
 // Two arrows: the left sides as they are, the right sides after what those gave.
-fn unify_arrow(base: &[u64], work: &mut [u64], names: &[u64], top: usize, left: usize, depth: usize, sp: usize, a: usize, b: usize, c: usize, d: usize) -> Applied
+fn unify_arrow(
+    base: &[u64],
+    work: &mut [u64],
+    names: &[u64],
+    top: usize,
+    left: usize,
+    depth: usize,
+    sp: usize,
+    a: usize,
+    b: usize,
+    c: usize,
+    d: usize,
+) -> Applied
     requires { ⌜ length (now base) ≤ 4 * top ⌝ }
     requires { ⌜ ReadyArrow (now names) (now base ++ now work) top left sp a b c d ⌝ }
     ensures { λ r. ⌜ GivesU 0 0 (now (names .entry)) (now (base .entry) ++ now (work .entry)) (now (base .entry) ++ now (work .exit)) top left sp
@@ -165,7 +259,17 @@ fn unify_arrow(base: &[u64], work: &mut [u64], names: &[u64], top: usize, left: 
 }
 
 // `unify`: the most general unifier of the types s and t, as pairs that end at sp, where the stack ends.
-pub fn unify(base: &[u64], work: &mut [u64], names: &[u64], top: usize, left: usize, depth: usize, sp: usize, s: usize, t: usize) -> Applied
+pub fn unify(
+    base: &[u64],
+    work: &mut [u64],
+    names: &[u64],
+    top: usize,
+    left: usize,
+    depth: usize,
+    sp: usize,
+    s: usize,
+    t: usize,
+) -> Applied
     requires { ⌜ length (now base) ≤ 4 * top ⌝ }
     requires { ⌜ ReadyU (now names) (now base ++ now work) top left sp s t ⌝ }
     ensures { λ r. ⌜ GivesU 1 0 (now (names .entry)) (now (base .entry) ++ now (work .entry)) (now (base .entry) ++ now (work .exit)) top left sp
