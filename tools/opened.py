@@ -43,7 +43,7 @@ unfoldable pub metered-lines : ℕ → List Answer → Text
 metered-lines k [] cs = cs
 metered-lines k (a ∷ rest) cs =
     show-nat k (quoted " " (show-result (a .result) (quoted " | " (show-nat (a .spent) (quoted " " (show-nat (kept (a .checker)) (quoted " "
-      (show-nat (a .checker .state .tv-counter) (quoted " " (show-nat (a .checker .state .dv-counter) (quoted "\\n" (metered-lines (suc k) rest cs))))))))))))
+    (show-nat (a .checker .state .tv-counter) (quoted " " (show-nat (a .checker .state .dv-counter) (quoted "\\n" (metered-lines (suc k) rest cs))))))))))))
 
 -- A whole session with the meters of each declaration.
 unfoldable pub metered : (budget work binders : ℕ) → List Decl → List ℕ
