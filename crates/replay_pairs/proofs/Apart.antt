@@ -1,28 +1,17 @@
 -- Names that were tested pairwise are a table of names.
 use mathlib.Core.Path.{_≡_, refl, sym, ap, _∙_}
-use mathlib.Core.Bool.{true, false}
+use mathlib.Core.Bool.{true}
 use mathlib.Core.List.{List}
 use Prim.Native.Nat.{ℕ, _+_, _*_, _/_, _^_, _<_}
 use native.Mathlib.Decide.{decLt}
 use native.Mathlib.Omega.{arith}
 use lib.ListN.{length, getD}
-use Rattle.meaning.specs.Ast.{TyVar, named, fresh, name, key, tie, tyvar-before}
+use Rattle.meaning.specs.Ast.{named, name, tyvar-before}
+use Rattle.theorems.proofs.ByteOrder.{tyvars-ordered}
 use Rattle.names.specs.Names.{row, nameOf, tyvarOf, Names}
-use Rattle.names.proofs.Tests.{eq-yes, lt-yes, lt-no}
+use Rattle.names.proofs.Tests.{lt-yes}
 use Rattle.names.proofs.Where.{is-named}
 use Rattle.replay_pairs.specs.Tested.{Apart, New}
-use Rattle.replay_pairs.proofs.Never.{never}
-
--- A variable is not put before itself where the bytes are the same.
-untied : (x : TyVar) → tie x x ≡ false
-unfolding tie
-untied (named x) = refl
-untied (fresh k) = lt-no k k (omega arith)
-
--- A variable does not come before itself.
-unordered : (x : TyVar) → tyvar-before x x ≡ false
-unfolding tyvar-before
-unordered x = rw (eq-yes (key x) (key x) refl) (untied x)
 
 -- The name of a row of the table.
 row-name : (ns : List ℕ) (i : ℕ) → 4 * i + 3 < length ns → nameOf ns i ≡ name (row ns i)
@@ -44,7 +33,7 @@ pub one-before : (ns : List ℕ) (i j : ℕ) → i < 1024 → j < 1024 → true 
 one-before ns i j a b f = record { differ = differ }
   where
     differ : 4 * i + 3 < length ns → 4 * j + 3 < length ns → row ns i ≡ row ns j → ⊥
-    differ h k e = never (f ∙ ap (λ x. tyvar-before x (tyvarOf ns j)) (same-variable ns i j a b h k e) ∙ unordered (tyvarOf ns j))
+    differ h k e = tyvars-ordered .irrefl (tyvarOf ns j) (sym (f ∙ ap (λ x. tyvar-before x (tyvarOf ns j)) (same-variable ns i j a b h k e)))
 
 -- Either way round.
 pub turned : (ns : List ℕ) (i j : ℕ) → Apart ns i j → Apart ns j i
