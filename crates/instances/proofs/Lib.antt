@@ -1,3 +1,4 @@
 pub mod Held
 pub mod Attempts
 pub mod Loops
+pub mod Plain

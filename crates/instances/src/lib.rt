@@ -181,9 +181,9 @@ fn overlaps_back(
 {
     let r = try_match(base, work, names, top, left, sp, b, a);
     match r {
-        Tried::Got(_, _, l) => Truth::Yes(l),
-        Tried::Failed(l) => Truth::No(l),
-        Tried::Limit(e, t2, l) => Truth::Refused(e, t2, l),
+        Tried::Got(_, _, l2) => Truth::Yes(l2),
+        Tried::Failed(l2) => Truth::No(l2),
+        Tried::Limit(e, t2, l2) => Truth::Refused(e, t2, l2),
     }
 }
 
@@ -257,9 +257,9 @@ pub fn none_overlaps(
 {
     let n = insts.len();
     let mut l = left;
-    let mut i: usize = 0;
-    while i < n {
-        let r = overlaps_instance(base, work, names, insts, top, l, sp, i, c, t);
+    let mut j: usize = 0;
+    while j < n {
+        let r = overlaps_instance(base, work, names, insts, top, l, sp, j, c, t);
         match r {
             Truth::Yes(l2) => return Apart::Refused(Refusal::DuplicateInstance(c, t), top, l2),
             Truth::No(l2) => {
@@ -267,7 +267,7 @@ pub fn none_overlaps(
             }
             Truth::Refused(e, t2, l2) => return Apart::Refused(e, t2, l2),
         }
-        i += 1;
+        j += 1;
     }
     Apart::All(l)
 }

@@ -13,10 +13,10 @@ use Rattle.instances.proofs.none_overlaps.Statement.{statement}
 use Rattle.instances.proofs.none_overlaps.Tie as tie
 
 abbrev Inv-loop : tie.InvT-loop
-Inv-loop base work₀ names insts top left sp c t n l₀ i₀ work l i = Going (parts-from (pred (nameOf names c) (tree names (base ++ work₀) t))) names (base ++ work₀) insts top l₀ sp (base ++ work) l i
+Inv-loop base work₀ names insts top left sp c t n l₀ j₀ work l j = Going (parts-from (pred (nameOf names c) (tree names (base ++ work₀) t))) names (base ++ work₀) insts top l₀ sp (base ++ work) l j
 
 abbrev μ-loop : tie.MeasureT-loop
-μ-loop base work₀ names insts top left sp c t n l₀ i₀ work l i = n - i
+μ-loop base work₀ names insts top left sp c t n l₀ j₀ work l j = n - j
 
 loop-holds : tie.Need-loop-holds Inv-loop μ-loop
 loop-holds c = going _ _ _ _ _ _ _
@@ -45,8 +45,8 @@ same-length-2 c = let y = same-short (c .before .before .before .before .before 
 returns-2 : tie.Need-returns-2 Inv-loop μ-loop
 returns-2 c = apart-refused (c .before .before .before .before .before .before .before .before .before .before .before .before .before .pre .1) (c .before .before .before .before .before .before .before .before .before .before .before .before .before .args .c) (c .before .before .before .before .before .before .before .before .loop .inv) (c .before .before .before .before .before .before .before .loop-test .taken) (c .before .before .before .before .before .overlaps-instance .ensures) (c .before .r3 .given .1)
 
-add-i : tie.Need-add-i Inv-loop μ-loop
-add-i c = omega arith
+add-j : tie.Need-add-j Inv-loop μ-loop
+add-j c = omega arith
 
 loop-less : tie.Need-loop-less Inv-loop μ-loop
 loop-less c = omega arith
@@ -75,7 +75,7 @@ none-overlaps-spec =
     enum-known-r-3
     same-length-2
     returns-2
-    add-i
+    add-j
     loop-less
     loop-again
     same-length-3
