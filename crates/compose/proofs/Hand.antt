@@ -24,7 +24,7 @@ after-after (refused r n) f g = refl
 
 -- An answer of t nodes and l steps, to one who had top nodes and left steps.
 answer-on : (slack slack₂ x x₂ : ℕ) (ns w : List ℕ) (top left t l hi : ℕ) (o o′ : Out Subst) (r : Applied) → o ≡ o′ → top ≤ t
-    → 4 * t + 8 * l + x₂ + slack ≤ 4 * top + 8 * left + x + slack₂ → l + slack ≤ left + slack₂ → l ≤ left
+    → 4 * t + 8 * l + x₂ + 6 * slack ≤ 4 * top + 8 * left + x + 6 * slack₂ → l + slack ≤ left + slack₂ → l ≤ left
     → AnswerU slack₂ x₂ ns w t l hi o′ r → AnswerU slack x ns w top left hi o r
 answer-on slack slack₂ x x₂ ns w top left t l hi o o′ (Done k t′ l′) e more less down fewer a =
     let u = a .1 .more in
@@ -38,7 +38,7 @@ answer-on slack slack₂ x x₂ ns w top left t l hi o o′ (Refused u t′ l′
 
 -- What is done after the table grew to t and the stack stood.
 pub on : {slack slack₂ x x₂ : ℕ} {ns w w₁ w₂ : List ℕ} {top left t l hi : ℕ} {o o′ : Out Subst} {r : Applied} → Stands w w₁ top hi → top ≤ t → o ≡ o′
-    → 4 * t + 8 * l + x₂ + slack ≤ 4 * top + 8 * left + x + slack₂ → l + slack ≤ left + slack₂ → l ≤ left
+    → 4 * t + 8 * l + x₂ + 6 * slack ≤ 4 * top + 8 * left + x + 6 * slack₂ → l + slack ≤ left + slack₂ → l ≤ left
     → GivesU slack₂ x₂ ns w₁ w₂ t l hi o′ r → GivesU slack x ns w w₂ top left hi o r
 on {slack} {slack₂} {x} {x₂} {ns} {w₂ = w₂} {top} {left} {t} {l} {hi} {o} {o′} {r} S more e less down fewer G =
     record { stands = stands-then S (G .stands) more; answer = answer-on slack slack₂ x x₂ ns w₂ top left t l hi o o′ r e more less down fewer (G .answer) }

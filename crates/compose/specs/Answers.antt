@@ -14,14 +14,14 @@ use Rattle.pairs.specs.Pairs.{subAt, Sub, Stands}
 use Rattle.apply.specs.declared.Applied.{Applied}
 use Rattle.apply.specs.declared.Applied.the-variants.{Done, Refused}
 
--- The k pairs that end at hi, in order. Of the table's words, 8 for each step left and x more, there are used the table's,
--- the region's, 8 for each step left, and slack more; and slack steps at the least.
+-- The k pairs that end at hi, in order. At least slack steps were spent. Of the table's words, 8 for each step left and x
+-- more, there are used the table's, the region's and 8 for each step left; of each of the slack steps 6 are not used.
 pub record GrownU (slack x : ℕ) (ns w′ : List ℕ) (top left hi top′ left′ k : ℕ) : Type 0 where
   pub table : Table w′ top′
   pub sub : Sub w′ top′ (hi - 2 * k) k
   pub sorted : Sorted tyvars (subAt ns w′ (hi - 2 * k) k)
   pub more : top ≤ top′
-  pub spent : 4 * top′ + 8 * left′ + 2 * k + slack ≤ 4 * top + 8 * left + x
+  pub spent : 4 * top′ + 8 * left′ + 2 * k + 6 * slack ≤ 4 * top + 8 * left + x
   pub down : left′ + slack ≤ left
 
 abbrev pub AnswerU : ℕ → ℕ → List ℕ → List ℕ → ℕ → ℕ → ℕ → Out Subst → Applied → Type 0

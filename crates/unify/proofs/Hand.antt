@@ -21,7 +21,7 @@ refuses-on R i m d = let a = R .more in let b = R .down in record { is = i; type
 
 -- What is done after the table grew to t while the stack stood.
 pub on : {slack slack₂ x x₂ : ℕ} {ns w w₁ w₂ : List ℕ} {top left t l hi : ℕ} {o o₁ : Out Subst} {r : Applied} → Stands w w₁ top hi → top ≤ t → o ≡ o₁
-    → 4 * t + 8 * l + x₂ + slack ≤ 4 * top + 8 * left + x + slack₂ → l + slack ≤ left → GivesU slack₂ x₂ ns w₁ w₂ t l hi o₁ r → GivesU slack x ns w w₂ top left hi o r
+    → 4 * t + 8 * l + x₂ + 6 * slack ≤ 4 * top + 8 * left + x + 6 * slack₂ → l + slack ≤ left → GivesU slack₂ x₂ ns w₁ w₂ t l hi o₁ r → GivesU slack x ns w w₂ top left hi o r
 on S more e less down G = handed S more e less (omega arith) (omega arith) G
 
 -- A refusal over words that have been written.
