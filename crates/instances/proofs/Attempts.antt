@@ -6,7 +6,7 @@ use mathlib.Core.Bool.{Bool, true, false}
 use mathlib.Core.List.{List}
 use mathlib.Core.Option.{Option, none, some}
 use lib.ListN.{length, getD}
-use Rattle.meaning.specs.Ast.{Ty, Pred, pred}
+use Rattle.meaning.specs.Ast.{Ty, pred}
 use Rattle.meaning.specs.Errors.{added}
 use Rattle.meaning.specs.Budget.{Out, done, settled}
 use Rattle.meaning.specs.Subst.{Subst}
@@ -77,10 +77,6 @@ pub instance-ready : {ns w il : List ℕ} {top left sp t i c a b : ℕ} → Read
 instance-ready R h O = record { names = R .names; first = cons-head (R .heads .node _ h) refl (O .cell) .1; second = R .node; room = R .room; fits = R .fits }
 
 module _ {ns w il : List ℕ} {top left sp t : ℕ} (R : ReadyPick ns w il top left sp t) {l c₁ a b : ℕ} (O : Opened w l c₁ a b) (c : ℕ) where
-  -- The goal.
-  abbrev goal : Pred
-  goal = pred (nameOf ns c) (tree ns w t)
-
   module _ (h : c₁ ≡ c → ⊥) where
     -- Their names differ.
     other : nameOf ns c₁ ≡ nameOf ns c → ⊥

@@ -2,3 +2,4 @@ pub mod Held
 pub mod Attempts
 pub mod Loops
 pub mod Plain
+pub mod Means

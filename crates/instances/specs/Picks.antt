@@ -46,7 +46,8 @@ pub record ReadyPick (ns w il : List ℕ) (top left sp t : ℕ) : Type 0 where
   pub room : 4 * top + 8 * left ≤ sp
   pub fits : sp ≤ length w
 
--- ## What is given. Where nothing is refused and no match is answered, the table is that of top nodes, which stands
+-- ## What is given. Where a match is answered its pairs are over a table of top′ nodes. Otherwise the caller goes on with
+-- its own: the top nodes stand, whatever an attempt wrote after them
 
 -- A match, as k pairs that end at sp over a table of top′ nodes; or none; or a refusal that stays one.
 abbrev pub TriedAs : List ℕ → List ℕ → ℕ → ℕ → ℕ → Out (Option Subst) → Tried → Type 0
