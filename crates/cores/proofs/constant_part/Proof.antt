@@ -4,29 +4,22 @@ use Rattle.cores.specs.Parts.{constantPart}
 use borrow.Author.Needs.{needs}
 use Rattle.cores.proofs.constant_part.Statement.{statement}
 use Rattle.cores.proofs.constant_part.Tie as tie
-use Rattle.cores.proofs.constant_part.Reads as reads
-use Rattle.cores.proofs.constant_part.Lts as lts
 
--- src/lib.rt:41:9
 returns : tie.Need-returns
 unfolding constantPart
 returns c = rw (eq-eqb _ _ (c .if1 .taken))
 
--- src/lib.rt:44:9
 returns-2 : tie.Need-returns-2
 unfolding constantPart
 returns-2 c = rw (ne-eqb _ _ (c .before .if1 .left), eq-eqb _ _ (c .if2 .taken))
 
--- src/lib.rt:47:9
 returns-3 : tie.Need-returns-3
 unfolding constantPart
 returns-3 c = rw (ne-eqb _ _ (c .before .before .if1 .left), ne-eqb _ _ (c .before .if2 .left), lt-ltb _ _ (c .if3 .taken))
 
--- src/lib.rt:49:19
 sub-t4 : tie.Need-sub-t4
 sub-t4 c = search needs
 
--- src/lib.rt:37:1
 returns-4 : tie.Need-returns-4
 unfolding constantPart
 returns-4 c = rw (ne-eqb _ _ (c .before .before .if1 .left), ne-eqb _ _ (c .before .if2 .left), le-ltb _ _ (c .if3 .left))

@@ -7,32 +7,22 @@ use Rattle.cores.specs.Parts.{pushedFour}
 use borrow.Author.Needs.{needs}
 use Rattle.cores.proofs.push_four.Statement.{statement}
 use Rattle.cores.proofs.push_four.Tie as tie
-use Rattle.cores.proofs.push_four.Reads as reads
-use Rattle.cores.proofs.push_four.Lts as lts
-use Rattle.ast.proofs.push.Reads as push-reads
-use Rattle.pairs.proofs.put.Reads as put-reads
 
--- src/lib.rt:131:28
 mul-put : tie.Need-mul-put
 mul-put c = let p = c .before .before .before .pre .0 in let q = c .before .before .before .pre .1 in let g = c .before .before .before .good .0 .0 in let h = c .before .before .before .good .1 .0 .0 in let j = joined (c .before .before .before .args .base .now) (c .before .before .before .args .work .now) in omega arith
 
--- src/lib.rt:131:28
 add-put : tie.Need-add-put
 add-put c = let p = c .before .before .before .pre .0 in let q = c .before .before .before .pre .1 in let g = c .before .before .before .good .0 .0 in let h = c .before .before .before .good .1 .0 .0 in let j = joined (c .before .before .before .args .base .now) (c .before .before .before .args .work .now) in omega arith
 
--- src/lib.rt:131:5
 put-requires : tie.Need-put-requires
 put-requires c κs = search needs
 
--- src/lib.rt:132:5
 push-requires : tie.Need-push-requires
 push-requires c κs = let p = c .before .before .before .before .before .before .before .pre .0 in let q = c .before .before .before .before .before .before .before .pre .1 in let l = long (c .before .before .before .before .before .before .before .args .base .now) (c .before .before .before .put .last .1 .0) (c .before .before .before .before .before .before .before .args .work .now) (c .before .before .before .put .kept .1 .0) in (omega arith, omega arith)
 
--- src/lib.rt:126:1
 same-length : tie.Need-same-length
 same-length c = search needs
 
--- src/lib.rt:126:1
 returns : tie.Need-returns
 unfolding pushedFour
 returns c = c .before .before .push .ensures ∙ rw (c .before .before .before .before .before .before .put .ensures)
