@@ -40,17 +40,17 @@ module _ (w : List ℕ) (top tag a b : ℕ) where
 
   module _ (room : 4 * top + 4 ≤ length w) where
     -- The new node's tag.
-    pushed-0 : getD (pushed w top tag a b) (4 * top) 0 ≡ tag
+    pub pushed-0 : getD (pushed w top tag a b) (4 * top) 0 ≡ tag
     unfolding pushed
     pushed-0 = getD-set-other two (4 * top + 2) (4 * top) b 0 (omega arith) ∙ getD-set-other one (4 * top + 1) (4 * top) a 0 (omega arith) ∙ getD-set-same w (4 * top) tag 0 (omega arith)
 
     -- Its first field.
-    pushed-1 : getD (pushed w top tag a b) (4 * top + 1) 0 ≡ a
+    pub pushed-1 : getD (pushed w top tag a b) (4 * top + 1) 0 ≡ a
     unfolding pushed
     pushed-1 = getD-set-other two (4 * top + 2) (4 * top + 1) b 0 (omega arith) ∙ getD-set-same one (4 * top + 1) a 0 (simp length-set (omega arith))
 
     -- Its second field.
-    pushed-2 : getD (pushed w top tag a b) (4 * top + 2) 0 ≡ b
+    pub pushed-2 : getD (pushed w top tag a b) (4 * top + 2) 0 ≡ b
     unfolding pushed
     pushed-2 = getD-set-same two (4 * top + 2) b 0 (simp length-set (omega arith))
 

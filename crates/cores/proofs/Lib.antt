@@ -1,0 +1,4 @@
+pub mod Parted
+pub mod BinderLaws
+pub mod TermLaws
+pub mod NewTerm

@@ -1,0 +1,4 @@
+pub mod ClassTable
+pub mod Givens
+pub mod Frames
+pub mod Search
