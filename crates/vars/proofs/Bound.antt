@@ -28,7 +28,7 @@ and-turn false true c e = e
 and-turn false false c e = refl
 
 -- Three tests, bracketed otherwise.
-and-move : (a b c : Bool) → (a && (b && c)) ≡ ((a && b) && c)
+pub and-move : (a b c : Bool) → (a && (b && c)) ≡ ((a && b) && c)
 and-move true b c = refl
 and-move false b c = refl
 
@@ -66,7 +66,7 @@ all-add x xs vs = go (elem tyvars x xs) refl
     go false e = all-cons x xs vs
 
 -- None are among any.
-all-none : (vs : List TyVar) → all-in [] vs ≡ true
+pub all-none : (vs : List TyVar) → all-in [] vs ≡ true
 unfolding without keep null
 all-none vs = refl
 
@@ -93,11 +93,11 @@ mutual
       ∙ ap (λ (c : Bool). c && all-in out vs) (sym (all-types ts (ftv-type a []) vs))
 
 -- A first test that holds leaves the second one.
-and-left : {a b : Bool} → a ≡ true → (b && a) ≡ b
+pub and-left : {a b : Bool} → a ≡ true → (b && a) ≡ b
 and-left {b = b} e = rw e (and-true b)
 
 -- One that fails is enough.
-and-false : (b : Bool) → (b && false) ≡ false
+pub and-false : (b : Bool) → (b && false) ≡ false
 and-false true = refl
 and-false false = refl
 
