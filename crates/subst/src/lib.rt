@@ -3,15 +3,14 @@ use apply::Applied;
 use ast::Cell;
 use errors::Refusal;
 ghost use mathlib.Core.Path.{_≡_};
-ghost use mathlib.Core.List.{[], _++_};
+ghost use mathlib.Core.List.{_++_};
 ghost use Prim.Native.Nat.{_+_, _*_, _-_, _≤_};
 ghost use lib.ListN.{length};
 ghost use Rattle.meaning.specs.Base.{null};
 ghost use Rattle.meaning.specs.Ast.{pred, qual};
-ghost use Rattle.meaning.specs.Subst.{apply-pred, apply-preds, apply-qual, apply-scheme, ftv-preds, ftv-scheme};
+ghost use Rattle.meaning.specs.Subst.{apply-pred, apply-preds, apply-qual, apply-scheme, ftv-scheme};
 ghost use Rattle.names.specs.Names.{Names, first-node, nameOf};
 ghost use Rattle.ast.specs.Table.{tree, Node};
-ghost use Rattle.vars.specs.Vars.{varsOf, all-in};
 ghost use Rattle.pairs.specs.Pairs.{subAt};
 ghost use Rattle.apply.specs.Region.{subBut, Ready, ReadyBut, Gives};
 ghost use Rattle.subst.specs.Made.{Empty, Single};
@@ -226,31 +225,8 @@ pub fn apply_qual(
     apply_qual_but(base, work, names, top, left, at, k, ast::NIL, preds, t)
 }
 
-// Whether each variable of a predicate of the list l is one of the list vs.
-fn all_bound_preds(base: &[u64], work: &[u64], names: &[u64], top: usize, vs: usize, l: usize) -> bool
-    requires { ⌜ Names (now names) ⌝ }
-    requires { ⌜ Node (now base ++ now work) top vs ⌝ }
-    requires { ⌜ Node (now base ++ now work) top l ⌝ }
-    ensures { λ r. ⌜ r ≡ all-in (ftv-preds (predsOf (now (names .entry)) (now (base .entry) ++ now (work .entry)) l) []) (varsOf (now (names .entry)) (now (base .entry) ++ now (work .entry)) vs) ⌝ }
-{
-    let mut p = l;
-    loop {
-        let c = ast::cell_at(base, work, p);
-        match c {
-            Cell::Nil => {
-                return true;
-            }
-            Cell::Cons(a, b) => {
-                if !vars::all_bound(base, work, names, top, vs, a) {
-                    return false;
-                }
-                p = b;
-            }
-        }
-    }
-}
-
-// Whether the scheme of the variables vs over predicates and a type has no free variables.
+// Whether the scheme of the variables vs over predicates and a type has no free variables. The cells of predicates are
+// those of a list of types.
 pub fn is_closed(base: &[u64], work: &[u64], names: &[u64], top: usize, vs: usize, preds: usize, t: usize) -> bool
     requires { ⌜ Names (now names) ⌝ }
     requires { ⌜ Node (now base ++ now work) top vs ⌝ }
@@ -259,7 +235,7 @@ pub fn is_closed(base: &[u64], work: &[u64], names: &[u64], top: usize, vs: usiz
     ensures { λ r. ⌜ r ≡ null (ftv-scheme (schemeOf (now (names .entry)) (now (base .entry) ++ now (work .entry)) vs preds t)) ⌝ }
 {
     if vars::all_bound(base, work, names, top, vs, t) {
-        return all_bound_preds(base, work, names, top, vs, preds);
+        return vars::all_bound_list(base, work, names, top, vs, preds);
     }
     false
 }

@@ -28,7 +28,7 @@ and-turn false true c e = e
 and-turn false false c e = refl
 
 -- Three tests, bracketed otherwise.
-pub and-move : (a b c : Bool) → (a && (b && c)) ≡ ((a && b) && c)
+and-move : (a b c : Bool) → (a && (b && c)) ≡ ((a && b) && c)
 and-move true b c = refl
 and-move false b c = refl
 
@@ -66,12 +66,12 @@ all-add x xs vs = go (elem tyvars x xs) refl
     go false e = all-cons x xs vs
 
 -- None are among any.
-pub all-none : (vs : List TyVar) → all-in [] vs ≡ true
+all-none : (vs : List TyVar) → all-in [] vs ≡ true
 unfolding without keep null
 all-none vs = refl
 
 -- One variable, of a type that is nothing else.
-pub all-one : (x : TyVar) (vs : List TyVar) → all-in (add x []) vs ≡ elem tyvars x vs
+all-one : (x : TyVar) (vs : List TyVar) → all-in (add x []) vs ≡ elem tyvars x vs
 all-one x vs = all-add x [] vs ∙ rw (all-none vs) (and-true (elem tyvars x vs))
 
 mutual
