@@ -1,19 +1,21 @@
--- Laws of lists of variables: what a list stands for by its cell, that it stands where its words do, and looking in it.
-use Prim.Native.Nat.{ℕ, zero, suc, _+_, _<_}
+-- Laws of lists of variables: what a list stands for by its cell, that it stands where its words do, a new cell, and looking in it.
+use Prim.Native.Nat.{ℕ, zero, suc, _+_, _*_, _<_, _≤_}
 use native.Mathlib.Omega.{arith}
 use mathlib.Core.Path.{_≡_, refl, ap, sym, _∙_}
 use mathlib.Core.Bool.{Bool, true, false}
 use mathlib.Core.List.{List, [], _∷_}
+use lib.ListN.{length}
 use Rattle.meaning.specs.Base.{yes?, if}
 use Rattle.meaning.specs.Ast.{TyVar, same-tyvar}
 use Rattle.meaning.specs.Map.{tyvars, elem}
 use Rattle.names.specs.Names.{Names, first-node, tyvarOf}
 use Rattle.names.proofs.Distinct.{tyvarOf-same}
-use Rattle.ast.specs.Table.{cellOf, CellBelow, Table, Node, Kept}
+use Rattle.ast.specs.Table.{cellOf, CellBelow, Table, Node, Kept, pushed}
 use Rattle.ast.specs.declared.Cell.{Cell}
 use Rattle.ast.specs.declared.Cell.the-variants.{Nil, Cons}
 use Rattle.ast.proofs.Ranges.{cell-low}
 use Rattle.ast.proofs.Laws.{cells-below, kept-cell, kept-refl, no-nodes, low-node, cons-tail}
+use Rattle.ast.proofs.NewNode.{Pushed, push-cons, pushed-cell}
 use Rattle.vars.specs.Vars.{ofVars, varsF, varsOf}
 
 -- Two readings that agree below t agree on a cell that refers below t.
@@ -55,6 +57,18 @@ module _ {w : List ℕ} {top l : ℕ} {r : Cell} (ns : List ℕ) (N : Node w top
 -- A word that names no node is no variables, over any words.
 pub low-vars : (ns w : List ℕ) (t : ℕ) → t < first-node → varsOf ns w t ≡ []
 low-vars ns w t h = vars-nil ns (low-node (no-nodes w) h) (sym (cell-low w t h)) refl
+
+-- What `push` makes of a variable's word and the rest of a list, w′ being the words after it.
+pub push-vars : {w w′ : List ℕ} {top a b : ℕ} (ns : List ℕ) → 4 * top + 4 ≤ length w → top < first-node → Node w top a → Node w top b → w′ ≡ pushed w top 3 a b
+    → Pushed (varsOf ns w′) w w′ top (tyvarOf ns a ∷ varsOf ns w b)
+push-vars {w} {w′} {top} {a} {b} ns room small A B e =
+    let P = push-cons ns room small A B e in
+    record {
+      long = P .long;
+      kept = P .kept;
+      node = P .node;
+      is = vars-cons ns (P .node) (sym (ap (λ v. cellOf v (first-node + top)) e ∙ pushed-cell w top 3 a b room)) refl ∙ rw (kept-vars ns (P .kept) B);
+    }
 
 -- ## Looking for a variable
 
