@@ -79,3 +79,7 @@ scheme-is {w} {ps = ps} ns N vs t =
 pub qual-is : (ns w : List ℕ) (ps t : ℕ) → ftv-scheme (schemeOf ns w 0 ps t) ≡ ftv-qual (qual (predsOf ns w ps) (tree ns w t))
 unfolding ftv-scheme
 qual-is ns w ps t = rw (low-vars ns w 0 (omega arith)) (without-none (ftv-qual (qual (predsOf ns w ps) (tree ns w t))))
+
+-- A scheme's list begins with no variables.
+pub from-none : (ns w : List ℕ) → varsOf ns w 0 ≡ []
+from-none ns w = low-vars ns w 0 (omega arith)
