@@ -10,11 +10,11 @@ use Rattle.meaning.specs.Ast.{Ty, TyVar, var, same-tyvar}
 use Rattle.meaning.specs.Map.{tyvars, get, remove, elem}
 use Rattle.meaning.specs.Subst.{Subst, or-var, look, filtered, apply-in}
 use Rattle.names.specs.Names.{Names, tyvarOf}
-use Rattle.ast.specs.Table.{tree, Table, Node}
+use Rattle.ast.specs.Table.{tree, Node}
 use Rattle.ast.proofs.Laws.{low-node}
 use Rattle.vars.specs.Vars.{varsOf}
 use Rattle.vars.proofs.VarLaws.{low-vars}
-use Rattle.pairs.specs.Pairs.{subAt, findAt, Sub}
+use Rattle.pairs.specs.Pairs.{subAt, findAt}
 use Rattle.pairs.specs.declared.Found.{Found}
 use Rattle.pairs.specs.declared.Found.the-variants.{At, Nothing}
 use Rattle.pairs.proofs.Looks as L

@@ -1,11 +1,11 @@
 -- What applying a substitution on the stack asks of the words and gives.
 use mathlib.Core.Path.{_≡_}
 use mathlib.Core.List.{List}
-use Prim.Native.Nat.{ℕ, _+_, _*_, _<_, _≤_}
+use Prim.Native.Nat.{ℕ, _+_, _*_, _≤_}
 use Rattle.meaning.specs.Base.{if}
 use Rattle.meaning.specs.Map.{tyvars, elem}
 use Rattle.meaning.specs.Subst.{Subst, filtered}
-use Rattle.meaning.specs.Budget.{Out, done, refused}
+use Rattle.meaning.specs.Budget.{Out, done}
 use Rattle.names.specs.Names.{Names, tyvarOf}
 use Rattle.ast.specs.Table.{Node}
 use Rattle.errors.specs.Refusals.{Refuses}

@@ -20,7 +20,16 @@ pub enum Applied {
 }
 
 // What the k pairs from at have for the variable of word x, unless it is one of the list vs.
-fn find_but(base: &[u64], work: &[u64], names: &[u64], top: usize, at: usize, k: usize, vs: usize, x: usize) -> Found
+fn find_but(
+    base: &[u64],
+    work: &[u64],
+    names: &[u64],
+    top: usize,
+    at: usize,
+    k: usize,
+    vs: usize,
+    x: usize,
+) -> Found
     requires { ⌜ Names (now names) ⌝ }
     requires { ⌜ Node (now base ++ now work) top vs ⌝ }
     requires { ⌜ at + 2 * k ≤ length (now base ++ now work) ⌝ }

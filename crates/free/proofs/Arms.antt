@@ -1,10 +1,10 @@
 -- What is wanted and collected at each kind of type and list, and for schemes.
-use mathlib.Core.Path.{_≡_, refl, ap, sym, _∙_}
+use mathlib.Core.Path.{_≡_, sym, _∙_}
 use mathlib.Core.List.{List, []}
 use Prim.Native.Nat.{ℕ, suc}
 use native.Mathlib.Omega.{arith}
 use Rattle.meaning.specs.Ast.{TyVar, Ty, qual}
-use Rattle.meaning.specs.Subst.{ftv-type, ftv-types, ftv-preds, ftv-qual, ftv-scheme, without}
+use Rattle.meaning.specs.Subst.{ftv-type, ftv-preds, ftv-qual, ftv-scheme}
 use Rattle.names.specs.Names.{tyvarOf}
 use Rattle.ast.specs.Table.{shapeOf, cellOf, tree, list, Node}
 use Rattle.ast.specs.declared.Shape.{Shape}

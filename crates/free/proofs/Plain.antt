@@ -2,7 +2,7 @@
 use mathlib.Core.Path.{_≡_, refl, ap, sym, _∙_}
 use mathlib.Core.Bool.{Bool, true, false, not, true≢false}
 use mathlib.Core.List.{List, [], _∷_}
-use Prim.Native.Nat.{ℕ, suc, _≤_}
+use Prim.Native.Nat.{_≤_}
 use native.Mathlib.Omega.{arith}
 use Rattle.meaning.specs.Base.{yes?, if, keep, count}
 use Rattle.meaning.specs.Ast.{TyVar, same-tyvar, Ty, Tys, var, con, arrow, nil, _◂_}

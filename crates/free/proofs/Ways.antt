@@ -1,11 +1,11 @@
 -- What the functions that collect ask and give: one variable, and one call after another.
-use mathlib.Core.Path.{_≡_, refl, ap, sym, _∙_}
+use mathlib.Core.Path.{_≡_, ap, sym, _∙_}
 use mathlib.Core.Bool.{Bool, true, false}
 use mathlib.Core.List.{List, _∷_, _++_}
 use Prim.Native.Nat.{ℕ, suc, _+_, _*_, _^_, _<_, _≤_}
 use native.Mathlib.Omega.{arith}
 use lib.ListN.{length}
-use Rattle.meaning.specs.Base.{if, count}
+use Rattle.meaning.specs.Base.{count}
 use Rattle.meaning.specs.Ast.{TyVar}
 use Rattle.meaning.specs.Map.{tyvars, elem}
 use Rattle.meaning.specs.Subst.{add}

@@ -20,7 +20,15 @@ pub struct Vars {
 }
 
 // The variable of word x before those of the list out, unless it is there or one of the list vs.
-fn add_but(base: &[u64], work: &mut [u64], names: &[u64], top: usize, vs: usize, out: usize, x: usize) -> Vars
+fn add_but(
+    base: &[u64],
+    work: &mut [u64],
+    names: &[u64],
+    top: usize,
+    vs: usize,
+    out: usize,
+    x: usize,
+) -> Vars
     requires { ⌜ length (now base) ≤ 4 * top ⌝ }
     requires { ⌜ Node (now base ++ now work) top vs ⌝ }
     requires { ⌜ Node (now base ++ now work) top out ⌝ }
@@ -32,17 +40,34 @@ fn add_but(base: &[u64], work: &mut [u64], names: &[u64], top: usize, vs: usize,
         (add-but (varsOf (now (names .entry)) (now (base .entry) ++ now (work .entry)) vs) (tyvarOf (now (names .entry)) x) (varsOf (now (names .entry)) (now (base .entry) ++ now (work .entry)) out)) (r .list) (r .top) ⌝ }
 {
     if vars::has_var(base, work, names, top, vs, x) {
-        return Vars { list: out, top: top };
+        return Vars {
+            list: out,
+            top: top,
+        };
     }
     if vars::has_var(base, work, names, top, out, x) {
-        return Vars { list: out, top: top };
+        return Vars {
+            list: out,
+            top: top,
+        };
     }
     ast::push(base, work, top, 3, x, out);
-    Vars { list: names::NODE + top, top: top + 1 }
+    Vars {
+        list: names::NODE + top,
+        top: top + 1,
+    }
 }
 
 // The variables of the type t before those of the list out; those of the list vs are passed over.
-fn free_type(base: &[u64], work: &mut [u64], names: &[u64], top: usize, vs: usize, out: usize, t: usize) -> Vars
+fn free_type(
+    base: &[u64],
+    work: &mut [u64],
+    names: &[u64],
+    top: usize,
+    vs: usize,
+    out: usize,
+    t: usize,
+) -> Vars
     requires { ⌜ length (now base) ≤ 4 * top ⌝ }
     requires { ⌜ Node (now base ++ now work) top vs ⌝ }
     requires { ⌜ Node (now base ++ now work) top out ⌝ }
@@ -65,7 +90,15 @@ fn free_type(base: &[u64], work: &mut [u64], names: &[u64], top: usize, vs: usiz
 }
 
 // The variables of the types of the list l before those of the list out; those of the list vs are passed over.
-fn free_types(base: &[u64], work: &mut [u64], names: &[u64], top: usize, vs: usize, out: usize, l: usize) -> Vars
+fn free_types(
+    base: &[u64],
+    work: &mut [u64],
+    names: &[u64],
+    top: usize,
+    vs: usize,
+    out: usize,
+    l: usize,
+) -> Vars
     requires { ⌜ length (now base) ≤ 4 * top ⌝ }
     requires { ⌜ Node (now base ++ now work) top vs ⌝ }
     requires { ⌜ Node (now base ++ now work) top out ⌝ }
@@ -78,7 +111,10 @@ fn free_types(base: &[u64], work: &mut [u64], names: &[u64], top: usize, vs: usi
 {
     let c = ast::cell_at(base, work, l);
     match c {
-        Cell::Nil => Vars { list: out, top: top },
+        Cell::Nil => Vars {
+            list: out,
+            top: top,
+        },
         Cell::Cons(a, b) => {
             let r = free_type(base, work, names, top, vs, out, a);
             free_types(base, work, names, r.top, vs, r.list, b)
@@ -87,7 +123,14 @@ fn free_types(base: &[u64], work: &mut [u64], names: &[u64], top: usize, vs: usi
 }
 
 // `ftv_type`: the variables of the type t before those of the list out.
-pub fn ftv_type(base: &[u64], work: &mut [u64], names: &[u64], top: usize, out: usize, t: usize) -> Vars
+pub fn ftv_type(
+    base: &[u64],
+    work: &mut [u64],
+    names: &[u64],
+    top: usize,
+    out: usize,
+    t: usize,
+) -> Vars
     requires { ⌜ length (now base) ≤ 4 * top ⌝ }
     requires { ⌜ Node (now base ++ now work) top out ⌝ }
     requires { ⌜ Node (now base ++ now work) top t ⌝ }
@@ -101,7 +144,14 @@ pub fn ftv_type(base: &[u64], work: &mut [u64], names: &[u64], top: usize, out: 
 }
 
 // `ftv_pred` of each predicate of the list l, before the variables of the list out. Its cells are those of a list of types.
-pub fn ftv_preds(base: &[u64], work: &mut [u64], names: &[u64], top: usize, out: usize, l: usize) -> Vars
+pub fn ftv_preds(
+    base: &[u64],
+    work: &mut [u64],
+    names: &[u64],
+    top: usize,
+    out: usize,
+    l: usize,
+) -> Vars
     requires { ⌜ length (now base) ≤ 4 * top ⌝ }
     requires { ⌜ Node (now base ++ now work) top out ⌝ }
     requires { ⌜ Node (now base ++ now work) top l ⌝ }
@@ -115,7 +165,15 @@ pub fn ftv_preds(base: &[u64], work: &mut [u64], names: &[u64], top: usize, out:
 }
 
 // `ftv_scheme`: the variables of a type and of predicates that are none of the list vs.
-pub fn ftv_scheme(base: &[u64], work: &mut [u64], names: &[u64], top: usize, vs: usize, preds: usize, t: usize) -> Vars
+pub fn ftv_scheme(
+    base: &[u64],
+    work: &mut [u64],
+    names: &[u64],
+    top: usize,
+    vs: usize,
+    preds: usize,
+    t: usize,
+) -> Vars
     requires { ⌜ length (now base) ≤ 4 * top ⌝ }
     requires { ⌜ Node (now base ++ now work) top vs ⌝ }
     requires { ⌜ Node (now base ++ now work) top preds ⌝ }
@@ -129,7 +187,14 @@ pub fn ftv_scheme(base: &[u64], work: &mut [u64], names: &[u64], top: usize, vs:
 }
 
 // `ftv_qual`: the variables of a type and of predicates.
-pub fn ftv_qual(base: &[u64], work: &mut [u64], names: &[u64], top: usize, preds: usize, t: usize) -> Vars
+pub fn ftv_qual(
+    base: &[u64],
+    work: &mut [u64],
+    names: &[u64],
+    top: usize,
+    preds: usize,
+    t: usize,
+) -> Vars
     requires { ⌜ length (now base) ≤ 4 * top ⌝ }
     requires { ⌜ Node (now base ++ now work) top preds ⌝ }
     requires { ⌜ Node (now base ++ now work) top t ⌝ }

@@ -2,11 +2,11 @@
 use mathlib.Core.Path.{_≡_, refl, sym, _∙_}
 use mathlib.Core.Bool.{Bool, true, false, _&&_, true≢false}
 use mathlib.Core.List.{List, []}
-use Prim.Native.Nat.{ℕ, suc, _+_, _*_, _≤_}
+use Prim.Native.Nat.{ℕ, suc}
 use native.Mathlib.Omega.{arith}
 use Rattle.meaning.specs.Base.{null}
 use Rattle.meaning.specs.Ast.{qual, forall}
-use Rattle.meaning.specs.Budget.{done, after}
+use Rattle.meaning.specs.Budget.{done}
 use Rattle.meaning.specs.Subst.{apply-qual, apply-scheme, ftv-type, ftv-types, ftv-qual, ftv-scheme}
 use Rattle.ast.specs.Table.{tree, list, Node}
 use Rattle.vars.specs.Vars.{varsOf, all-in}
@@ -59,9 +59,10 @@ module _ {ns w : List ℕ} {top left at k vs ps t : ℕ} {q : Bool} (R : ReadySc
     scheme-answer : (r : AppliedQual) → QualAnswer ns w′ top left (apply-qual (subBut ns w vs at k) (qual (predsOf ns w ps) (tree ns w t)) left) r
         → SchemeAnswer ns w′ top left vs (apply-scheme (subAt ns w at k) (schemeOf ns w vs ps t) left) r
     scheme-answer (Done ps′ t′ top′ left′) a =
-        let g = a .1 .1 in let s = g .spent in
-        (rw (kept-vars ns (G .stands .low) (R .vars)) (then-done (qual (predsOf ns w′ ps′) (tree ns w′ t′)) left′ under (a .0)),
-        (a .1 .0, record { node = g .node; more = g .more; spent = omega arith; down = g .down }))
+        let g = a .1 .1 in let s = g .spent in (
+          rw (kept-vars ns (G .stands .low) (R .vars)) (then-done (qual (predsOf ns w′ ps′) (tree ns w′ t′)) left′ under (a .0)),
+          (a .1 .0, record { node = g .node; more = g .more; spent = omega arith; down = g .down }),
+        )
     scheme-answer (Refused u top′ left′) a = refuse-on under a (omega arith) (omega arith)
 
     -- That is given.

@@ -1,5 +1,4 @@
 -- What the pairs do without no variables they do: for those functions that leave none as it is.
-use mathlib.Core.Path.{_≡_}
 use mathlib.Core.List.{List}
 use Prim.Native.Nat.{ℕ}
 use native.Mathlib.Omega.{arith}

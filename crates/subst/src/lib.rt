@@ -227,7 +227,15 @@ pub fn apply_qual(
 
 // Whether the scheme of the variables vs over predicates and a type has no free variables. The cells of predicates are
 // those of a list of types.
-pub fn is_closed(base: &[u64], work: &[u64], names: &[u64], top: usize, vs: usize, preds: usize, t: usize) -> bool
+pub fn is_closed(
+    base: &[u64],
+    work: &[u64],
+    names: &[u64],
+    top: usize,
+    vs: usize,
+    preds: usize,
+    t: usize,
+) -> bool
     requires { ⌜ Names (now names) ⌝ }
     requires { ⌜ Node (now base ++ now work) top vs ⌝ }
     requires { ⌜ Node (now base ++ now work) top preds ⌝ }

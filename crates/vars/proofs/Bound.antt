@@ -3,7 +3,7 @@ use mathlib.Core.Path.{_≡_, refl, ap, sym, _∙_}
 use mathlib.Core.Bool.{Bool, true, false, not, _&&_, false≢true}
 use mathlib.Core.List.{List, [], _∷_}
 use Prim.Native.Nat.{ℕ}
-use Rattle.meaning.specs.Base.{yes?, if, null, keep}
+use Rattle.meaning.specs.Base.{if, null, keep}
 use Rattle.meaning.specs.Ast.{TyVar, same-tyvar, Ty, Tys, var, con, arrow, nil, _◂_}
 use Rattle.meaning.specs.Map.{tyvars, elem}
 use Rattle.meaning.specs.Subst.{add, ftv-type, ftv-types, without}

@@ -2,7 +2,7 @@
 use Prim.Native.Nat.{ℕ, zero, suc, _+_, _*_, _<_, _≤_}
 use native.Mathlib.Omega.{arith}
 use mathlib.Core.Path.{_≡_, refl, ap, sym, _∙_}
-use mathlib.Core.Bool.{Bool, true, false}
+use mathlib.Core.Bool.{true, false}
 use mathlib.Core.List.{List, [], _∷_}
 use lib.ListN.{length}
 use Rattle.meaning.specs.Base.{yes?, if}
@@ -112,7 +112,10 @@ module _ {ns w : List ℕ} {top vs x l : ℕ} {r : Cell} (M : Names ns) (S : See
 
   -- Another one is passed; what is left is shorter.
   pub seeks-on : {a b : ℕ} → r ≡ Cons a b → (a ≡ x → ⊥) → (b < l) × Seeking ns w top vs x b
-  seeks-on {a} {b} k n = let t = cons-tail (S .node) e k in (t .0, record {
-    node = t .1;
-    same = sym (miss (tyvarOf ns x) (tyvarOf ns a) (varsOf ns w b) (λ p. n (sym (tyvarOf-same ns M x a p)))) ∙ (rw (vars-cons ns (S .node) e k) at (S .same));
-  })
+  seeks-on {a} {b} k n = let t = cons-tail (S .node) e k in (
+    t .0,
+    record {
+      node = t .1;
+      same = sym (miss (tyvarOf ns x) (tyvarOf ns a) (varsOf ns w b) (λ p. n (sym (tyvarOf-same ns M x a p)))) ∙ (rw (vars-cons ns (S .node) e k) at (S .same));
+    },
+  )

@@ -53,7 +53,14 @@ pub fn all_bound(base: &[u64], work: &[u64], names: &[u64], top: usize, vs: usiz
 }
 
 // Whether each variable of a type of the list l is one of the list vs.
-pub fn all_bound_list(base: &[u64], work: &[u64], names: &[u64], top: usize, vs: usize, l: usize) -> bool
+pub fn all_bound_list(
+    base: &[u64],
+    work: &[u64],
+    names: &[u64],
+    top: usize,
+    vs: usize,
+    l: usize,
+) -> bool
     requires { ⌜ Names (now names) ⌝ }
     requires { ⌜ Node (now base ++ now work) top vs ⌝ }
     requires { ⌜ Node (now base ++ now work) top l ⌝ }

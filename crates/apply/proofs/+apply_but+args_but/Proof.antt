@@ -44,251 +44,96 @@ abbrev args-but-below : ℕ → In 3 args-but-kinds.ps
 args-but-below t =
     and 3 args-but-kinds.ps (falls 3 args-but-kinds.ps _<_ μ-args-but t) args-but.Pre
 
--- src/lib.rt:55:9
 apply-but-returns : (t : ℕ) → apply-but-lts.Need-returns (shape-at-reads.Asked, shape-at-reads.Learnt, find-but-reads.Asked, find-but-reads.Learnt, args-but-below t, args-but.Post, push-reads.Asked, push-reads.Learnt, apply-but-below t, apply-but.Post) (apply-but-at t) apply-but.Post
 apply-but-returns t c = gives (refuses (no-depth _ _ _ _ (c .if1 .taken)) tt (omega arith))
 
--- src/lib.rt:58:9
 apply-but-returns-2 : (t : ℕ) → apply-but-lts.Need-returns-2 (shape-at-reads.Asked, shape-at-reads.Learnt, find-but-reads.Asked, find-but-reads.Learnt, args-but-below t, args-but.Post, push-reads.Asked, push-reads.Learnt, apply-but-below t, apply-but.Post) (apply-but-at t) apply-but.Post
 apply-but-returns-2 t c = gives (refuses (no-steps _ _ _ _ (c .before .if1 .left) (c .if2 .taken)) tt (omega arith))
 
--- src/lib.rt:60:13
-apply-but-sub-d : (t : ℕ) → apply-but-lts.Need-sub-d (shape-at-reads.Asked, shape-at-reads.Learnt, find-but-reads.Asked, find-but-reads.Learnt, args-but-below t, args-but.Post, push-reads.Asked, push-reads.Learnt, apply-but-below t, apply-but.Post) (apply-but-at t) apply-but.Post
-apply-but-sub-d t c = omega arith
-
--- src/lib.rt:61:13
-apply-but-sub-l : (t : ℕ) → apply-but-lts.Need-sub-l (shape-at-reads.Asked, shape-at-reads.Learnt, find-but-reads.Asked, find-but-reads.Learnt, args-but-below t, args-but.Post, push-reads.Asked, push-reads.Learnt, apply-but-below t, apply-but.Post) (apply-but-at t) apply-but.Post
-apply-but-sub-l t c = omega arith
-
--- src/lib.rt:62:9
 apply-but-shape-at-requires : (t : ℕ) → apply-but-lts.Need-shape-at-requires (shape-at-reads.Asked, shape-at-reads.Learnt, find-but-reads.Asked, find-but-reads.Learnt, args-but-below t, args-but.Post, push-reads.Asked, push-reads.Learnt, apply-but-below t, apply-but.Post) (apply-but-at t) apply-but.Post
 apply-but-shape-at-requires t c κs = node-room (c .before .before .before .before .before .before .pre .1 .1 .ty .node)
 
--- src/lib.rt:64:20
-apply-but-enum-known-s : (t : ℕ) → apply-but-lts.Need-enum-known-s (shape-at-reads.Asked, shape-at-reads.Learnt, find-but-reads.Asked, find-but-reads.Learnt, args-but-below t, args-but.Post, push-reads.Asked, push-reads.Learnt, apply-but-below t, apply-but.Post) (apply-but-at t) apply-but.Post
-apply-but-enum-known-s t c = search needs
-
--- src/lib.rt:65:17
 apply-but-find-but-requires : (t : ℕ) → apply-but-lts.Need-find-but-requires (shape-at-reads.Asked, shape-at-reads.Learnt, find-but-reads.Asked, find-but-reads.Learnt, args-but-below t, args-but.Post, push-reads.Asked, push-reads.Learnt, apply-but-below t, apply-but.Post) (apply-but-at t) apply-but.Post
 apply-but-find-but-requires t c κs = (c .before .before .before .before .before .before .before .before .before .before .before .pre .1 .1 .ty .names, (c .before .before .before .before .before .before .before .before .before .before .before .pre .1 .1 .vars, c .before .before .before .before .before .before .before .before .before .before .before .pre .1 .1 .ty .sub .fits))
 
--- src/lib.rt:67:27
-apply-but-enum-known-f : (t : ℕ) → apply-but-lts.Need-enum-known-f (shape-at-reads.Asked, shape-at-reads.Learnt, find-but-reads.Asked, find-but-reads.Learnt, args-but-below t, args-but.Post, push-reads.Asked, push-reads.Learnt, apply-but-below t, apply-but.Post) (apply-but-at t) apply-but.Post
-apply-but-enum-known-f t c = search needs
-
--- src/lib.rt:68:35
-apply-but-enum-told : (t : ℕ) → apply-but-lts.Need-enum-told (shape-at-reads.Asked, shape-at-reads.Learnt, find-but-reads.Asked, find-but-reads.Learnt, args-but-below t, args-but.Post, push-reads.Asked, push-reads.Learnt, apply-but-below t, apply-but.Post) (apply-but-at t) apply-but.Post
-apply-but-enum-told t c = search needs
-
--- src/lib.rt:71:20
-apply-but-enum-known-s-2 : (t : ℕ) → apply-but-lts.Need-enum-known-s-2 (shape-at-reads.Asked, shape-at-reads.Learnt, find-but-reads.Asked, find-but-reads.Learnt, args-but-below t, args-but.Post, push-reads.Asked, push-reads.Learnt, apply-but-below t, apply-but.Post) (apply-but-at t) apply-but.Post
-apply-but-enum-known-s-2 t c = search needs
-
--- src/lib.rt:73:17
-apply-but-same-length : (t : ℕ) → apply-but-lts.Need-same-length (shape-at-reads.Asked, shape-at-reads.Learnt, find-but-reads.Asked, find-but-reads.Learnt, args-but-below t, args-but.Post, push-reads.Asked, push-reads.Learnt, apply-but-below t, apply-but.Post) (apply-but-at t) apply-but.Post
-apply-but-same-length t c = search needs
-
--- src/lib.rt:73:17
 apply-but-returns-3 : (t : ℕ) → apply-but-lts.Need-returns-3 (shape-at-reads.Asked, shape-at-reads.Learnt, find-but-reads.Asked, find-but-reads.Learnt, args-but-below t, args-but.Post, push-reads.Asked, push-reads.Learnt, apply-but-below t, apply-but.Post) (apply-but-at t) apply-but.Post
 apply-but-returns-3 t c = gives (stays (at-nullary _ (c .before .before .before .before .before .before .before .before .before .before .before .pre .1 .1 .ty .node) _ (c .before .before .before .before .before .before .before .if1 .left) (c .before .before .before .before .before .before .if2 .left) (c .before .before .before .before .shape-at .ensures) (c .before .before .s2 .given .1) (c .if3 .taken)) (c .before .before .before .before .before .before .before .before .before .before .before .pre .1 .1 .ty .node) (omega arith) (omega arith))
 
--- src/lib.rt:75:17
 apply-but-args-but-requires : (t : ℕ) → apply-but-lts.Need-args-but-requires (shape-at-reads.Asked, shape-at-reads.Learnt, find-but-reads.Asked, find-but-reads.Learnt, args-but-below t, args-but.Post, push-reads.Asked, push-reads.Learnt, apply-but-below t, apply-but.Post) (apply-but-at t) apply-but.Post
 apply-but-args-but-requires t c κs = let k = con-child (c .before .before .before .before .before .before .before .before .before .before .before .before .pre .1 .1 .ty .node) (c .before .before .before .before .before .shape-at .ensures) (c .before .before .before .s2 .given .1) in (omega arith, (c .before .before .before .before .before .before .before .before .before .before .before .before .pre .1 .0, but-first (c .before .before .before .before .before .before .before .before .before .before .before .before .pre .1 .1) (omega arith) (k .1)))
 
--- src/lib.rt:77:31
-apply-but-enum-known-r : (t : ℕ) → apply-but-lts.Need-enum-known-r (shape-at-reads.Asked, shape-at-reads.Learnt, find-but-reads.Asked, find-but-reads.Learnt, args-but-below t, args-but.Post, push-reads.Asked, push-reads.Learnt, apply-but-below t, apply-but.Post) (apply-but-at t) apply-but.Post
-apply-but-enum-known-r t c = search needs
-
--- src/lib.rt:78:21
 apply-but-push-requires : (t : ℕ) → apply-but-lts.Need-push-requires (shape-at-reads.Asked, shape-at-reads.Learnt, find-but-reads.Asked, find-but-reads.Learnt, args-but-below t, args-but.Post, push-reads.Asked, push-reads.Learnt, apply-but-below t, apply-but.Post) (apply-but-at t) apply-but.Post
 apply-but-push-requires t c κs = let q = con-room (c .before .before .before .before .before .before .before .before .before .before .before .before .before .before .before .before .before .before .before .pre .1 .1) (c .before .before .before .before .before .before .before .before .before .before .before .before .before .before .before .if1 .left) (c .before .before .before .before .before .before .before .before .before .before .before .before .before .before .if2 .left) (c .before .before .before .before .before .before .before .before .before .before .before .before .shape-at .ensures) (c .before .before .before .before .before .before .before .before .before .before .s2 .given .1) (c .before .before .before .before .before .before .args-but .ensures) (c .before .before .r .given .1) (long (c .before .before .before .before .before .before .before .before .before .before .before .before .before .before .before .before .before .before .before .args .base .now) (c .before .before .before .before .before .before .args-but .last .1 .0) (c .before .before .before .before .before .before .before .before .before .before .before .before .before .before .before .before .before .before .before .args .work .now) (c .before .before .before .before .before .before .args-but .kept .1 .0)) (both-fit (c .before .before .before .before .before .before .before .before .before .before .before .before .before .before .before .before .before .before .before .args .base .now) (c .before .before .before .before .before .before .before .before .before .before .before .before .before .before .before .before .before .before .before .args .work .now) (c .before .before .before .before .before .before .before .before .before .before .before .before .before .before .before .before .before .before .before .good .0 .0) (c .before .before .before .before .before .before .before .before .before .before .before .before .before .before .before .before .before .before .before .good .1 .0 .0)) in let m = q .more in let cl = c .before .before .before .before .before .before .before .before .before .before .before .before .before .before .before .before .before .before .before .pre .1 .0 in (omega arith, q .room)
 
--- src/lib.rt:79:35
 apply-but-add-t58 : (t : ℕ) → apply-but-lts.Need-add-t58 (shape-at-reads.Asked, shape-at-reads.Learnt, find-but-reads.Asked, find-but-reads.Learnt, args-but-below t, args-but.Post, push-reads.Asked, push-reads.Learnt, apply-but-below t, apply-but.Post) (apply-but-at t) apply-but.Post
 apply-but-add-t58 t c = let q = con-room (c .before .before .before .before .before .before .before .before .before .before .before .before .before .before .before .before .before .before .before .before .before .before .pre .1 .1) (c .before .before .before .before .before .before .before .before .before .before .before .before .before .before .before .before .before .before .if1 .left) (c .before .before .before .before .before .before .before .before .before .before .before .before .before .before .before .before .before .if2 .left) (c .before .before .before .before .before .before .before .before .before .before .before .before .before .before .before .shape-at .ensures) (c .before .before .before .before .before .before .before .before .before .before .before .before .before .s2 .given .1) (c .before .before .before .before .before .before .before .before .before .args-but .ensures) (c .before .before .before .before .before .r .given .1) (long (c .before .before .before .before .before .before .before .before .before .before .before .before .before .before .before .before .before .before .before .before .before .before .args .base .now) (c .before .before .before .before .before .before .before .before .before .args-but .last .1 .0) (c .before .before .before .before .before .before .before .before .before .before .before .before .before .before .before .before .before .before .before .before .before .before .args .work .now) (c .before .before .before .before .before .before .before .before .before .args-but .kept .1 .0)) (both-fit (c .before .before .before .before .before .before .before .before .before .before .before .before .before .before .before .before .before .before .before .before .before .before .args .base .now) (c .before .before .before .before .before .before .before .before .before .before .before .before .before .before .before .before .before .before .before .before .before .before .args .work .now) (c .before .before .before .before .before .before .before .before .before .before .before .before .before .before .before .before .before .before .before .before .before .before .good .0 .0) (c .before .before .before .before .before .before .before .before .before .before .before .before .before .before .before .before .before .before .before .before .before .before .good .1 .0 .0)) in let s = q .small in omega arith
 
--- src/lib.rt:79:53
 apply-but-add-t59 : (t : ℕ) → apply-but-lts.Need-add-t59 (shape-at-reads.Asked, shape-at-reads.Learnt, find-but-reads.Asked, find-but-reads.Learnt, args-but-below t, args-but.Post, push-reads.Asked, push-reads.Learnt, apply-but-below t, apply-but.Post) (apply-but-at t) apply-but.Post
 apply-but-add-t59 t c = let q = con-room (c .before .before .before .before .before .before .before .before .before .before .before .before .before .before .before .before .before .before .before .before .before .before .pre .1 .1) (c .before .before .before .before .before .before .before .before .before .before .before .before .before .before .before .before .before .before .if1 .left) (c .before .before .before .before .before .before .before .before .before .before .before .before .before .before .before .before .before .if2 .left) (c .before .before .before .before .before .before .before .before .before .before .before .before .before .before .before .shape-at .ensures) (c .before .before .before .before .before .before .before .before .before .before .before .before .before .s2 .given .1) (c .before .before .before .before .before .before .before .before .before .args-but .ensures) (c .before .before .before .before .before .r .given .1) (long (c .before .before .before .before .before .before .before .before .before .before .before .before .before .before .before .before .before .before .before .before .before .before .args .base .now) (c .before .before .before .before .before .before .before .before .before .args-but .last .1 .0) (c .before .before .before .before .before .before .before .before .before .before .before .before .before .before .before .before .before .before .before .before .before .before .args .work .now) (c .before .before .before .before .before .before .before .before .before .args-but .kept .1 .0)) (both-fit (c .before .before .before .before .before .before .before .before .before .before .before .before .before .before .before .before .before .before .before .before .before .before .args .base .now) (c .before .before .before .before .before .before .before .before .before .before .before .before .before .before .before .before .before .before .before .before .before .before .args .work .now) (c .before .before .before .before .before .before .before .before .before .before .before .before .before .before .before .before .before .before .before .before .before .before .good .0 .0) (c .before .before .before .before .before .before .before .before .before .before .before .before .before .before .before .before .before .before .before .before .before .before .good .1 .0 .0)) in let s = q .small in omega arith
 
--- src/lib.rt:81:34
-apply-but-enum-known-r-2 : (t : ℕ) → apply-but-lts.Need-enum-known-r-2 (shape-at-reads.Asked, shape-at-reads.Learnt, find-but-reads.Asked, find-but-reads.Learnt, args-but-below t, args-but.Post, push-reads.Asked, push-reads.Learnt, apply-but-below t, apply-but.Post) (apply-but-at t) apply-but.Post
-apply-but-enum-known-r-2 t c = search needs
-
--- src/lib.rt:84:22
-apply-but-enum-known-s-3 : (t : ℕ) → apply-but-lts.Need-enum-known-s-3 (shape-at-reads.Asked, shape-at-reads.Learnt, find-but-reads.Asked, find-but-reads.Learnt, args-but-below t, args-but.Post, push-reads.Asked, push-reads.Learnt, apply-but-below t, apply-but.Post) (apply-but-at t) apply-but.Post
-apply-but-enum-known-s-3 t c = search needs
-
--- src/lib.rt:85:17
 apply-but-apply-but-requires : (t : ℕ) → apply-but-lts.Need-apply-but-requires (shape-at-reads.Asked, shape-at-reads.Learnt, find-but-reads.Asked, find-but-reads.Learnt, args-but-below t, args-but.Post, push-reads.Asked, push-reads.Learnt, apply-but-below t, apply-but.Post) (apply-but-at t) apply-but.Post
 apply-but-apply-but-requires t c κs = let k = arrow-left (c .before .before .before .before .before .before .before .before .before .before .before .pre .1 .1 .ty .node) (c .before .before .before .before .shape-at .ensures) (c .before .before .s3 .given .1) in (omega arith, (c .before .before .before .before .before .before .before .before .before .before .before .pre .1 .0, but-first (c .before .before .before .before .before .before .before .before .before .before .before .pre .1 .1) (omega arith) (k .1)))
 
--- src/lib.rt:87:31
-apply-but-enum-known-r-3 : (t : ℕ) → apply-but-lts.Need-enum-known-r-3 (shape-at-reads.Asked, shape-at-reads.Learnt, find-but-reads.Asked, find-but-reads.Learnt, args-but-below t, args-but.Post, push-reads.Asked, push-reads.Learnt, apply-but-below t, apply-but.Post) (apply-but-at t) apply-but.Post
-apply-but-enum-known-r-3 t c = search needs
-
--- src/lib.rt:88:25
 apply-but-apply-but-requires-2 : (t : ℕ) → apply-but-lts.Need-apply-but-requires-2 (shape-at-reads.Asked, shape-at-reads.Learnt, find-but-reads.Asked, find-but-reads.Learnt, args-but-below t, args-but.Post, push-reads.Asked, push-reads.Learnt, apply-but-below t, apply-but.Post) (apply-but-at t) apply-but.Post
 apply-but-apply-but-requires-2 t c κs = let k = arrow-right (c .before .before .before .before .before .before .before .before .before .before .before .before .before .before .before .before .before .before .pre .1 .1 .ty .node) (c .before .before .before .before .before .before .before .before .before .before .before .shape-at .ensures) (c .before .before .before .before .before .before .before .before .before .s3 .given .1) in let q = arrow-next (c .before .before .before .before .before .before .before .before .before .before .before .before .before .before .before .before .before .before .pre .1 .1) (c .before .before .before .before .before .before .before .before .before .before .before .before .before .before .if1 .left) (c .before .before .before .before .before .before .before .before .before .before .before .before .before .if2 .left) (c .before .before .before .before .before .before .before .before .before .before .before .shape-at .ensures) (c .before .before .before .before .before .before .before .before .before .s3 .given .1) (c .before .before .before .before .before .before .apply-but .ensures) (c .before .before .r3 .given .1) (long (c .before .before .before .before .before .before .before .before .before .before .before .before .before .before .before .before .before .before .args .base .now) (c .before .before .before .before .before .before .apply-but .last .1 .0) (c .before .before .before .before .before .before .before .before .before .before .before .before .before .before .before .before .before .before .args .work .now) (c .before .before .before .before .before .before .apply-but .kept .1 .0)) in let m = q .0 in let cl = c .before .before .before .before .before .before .before .before .before .before .before .before .before .before .before .before .before .before .pre .1 .0 in (omega arith, (omega arith, q .1))
 
--- src/lib.rt:90:39
-apply-but-enum-known-q : (t : ℕ) → apply-but-lts.Need-enum-known-q (shape-at-reads.Asked, shape-at-reads.Learnt, find-but-reads.Asked, find-but-reads.Learnt, args-but-below t, args-but.Post, push-reads.Asked, push-reads.Learnt, apply-but-below t, apply-but.Post) (apply-but-at t) apply-but.Post
-apply-but-enum-known-q t c = search needs
-
--- src/lib.rt:91:29
 apply-but-push-requires-2 : (t : ℕ) → apply-but-lts.Need-push-requires-2 (shape-at-reads.Asked, shape-at-reads.Learnt, find-but-reads.Asked, find-but-reads.Learnt, args-but-below t, args-but.Post, push-reads.Asked, push-reads.Learnt, apply-but-below t, apply-but.Post) (apply-but-at t) apply-but.Post
 apply-but-push-requires-2 t c κs = let q = arrow-room (c .before .before .before .before .before .before .before .before .before .before .before .before .before .before .before .before .before .before .before .before .before .before .before .before .before .pre .1 .1) (c .before .before .before .before .before .before .before .before .before .before .before .before .before .before .before .before .before .before .before .before .before .if1 .left) (c .before .before .before .before .before .before .before .before .before .before .before .before .before .before .before .before .before .before .before .before .if2 .left) (c .before .before .before .before .before .before .before .before .before .before .before .before .before .before .before .before .before .before .shape-at .ensures) (c .before .before .before .before .before .before .before .before .before .before .before .before .before .before .before .before .s3 .given .1) (c .before .before .before .before .before .before .before .before .before .before .before .before .before .apply-but .ensures) (c .before .before .before .before .before .before .before .before .before .r3 .given .1) (c .before .before .before .before .before .before .apply-but2 .ensures) (c .before .before .q .given .1) (long (c .before .before .before .before .before .before .before .before .before .before .before .before .before .before .before .before .before .before .before .before .before .before .before .before .before .args .base .now) (c .before .before .before .before .before .before .apply-but2 .last .1 .0) (c .before .before .before .before .before .before .before .before .before .before .before .before .before .before .before .before .before .before .before .before .before .before .before .before .before .args .work .now) (c .before .before .before .before .before .before .apply-but2 .kept .1 .0 ∙ c .before .before .before .before .before .before .before .before .before .before .before .before .before .apply-but .kept .1 .0)) (both-fit (c .before .before .before .before .before .before .before .before .before .before .before .before .before .before .before .before .before .before .before .before .before .before .before .before .before .args .base .now) (c .before .before .before .before .before .before .before .before .before .before .before .before .before .before .before .before .before .before .before .before .before .before .before .before .before .args .work .now) (c .before .before .before .before .before .before .before .before .before .before .before .before .before .before .before .before .before .before .before .before .before .before .before .before .before .good .0 .0) (c .before .before .before .before .before .before .before .before .before .before .before .before .before .before .before .before .before .before .before .before .before .before .before .before .before .good .1 .0 .0)) in let m = q .more in let cl = c .before .before .before .before .before .before .before .before .before .before .before .before .before .before .before .before .before .before .before .before .before .before .before .before .before .pre .1 .0 in (omega arith, q .room)
 
--- src/lib.rt:92:43
 apply-but-add-t69 : (t : ℕ) → apply-but-lts.Need-add-t69 (shape-at-reads.Asked, shape-at-reads.Learnt, find-but-reads.Asked, find-but-reads.Learnt, args-but-below t, args-but.Post, push-reads.Asked, push-reads.Learnt, apply-but-below t, apply-but.Post) (apply-but-at t) apply-but.Post
 apply-but-add-t69 t c = let q = arrow-room (c .before .before .before .before .before .before .before .before .before .before .before .before .before .before .before .before .before .before .before .before .before .before .before .before .before .before .before .before .pre .1 .1) (c .before .before .before .before .before .before .before .before .before .before .before .before .before .before .before .before .before .before .before .before .before .before .before .before .if1 .left) (c .before .before .before .before .before .before .before .before .before .before .before .before .before .before .before .before .before .before .before .before .before .before .before .if2 .left) (c .before .before .before .before .before .before .before .before .before .before .before .before .before .before .before .before .before .before .before .before .before .shape-at .ensures) (c .before .before .before .before .before .before .before .before .before .before .before .before .before .before .before .before .before .before .before .s3 .given .1) (c .before .before .before .before .before .before .before .before .before .before .before .before .before .before .before .before .apply-but .ensures) (c .before .before .before .before .before .before .before .before .before .before .before .before .r3 .given .1) (c .before .before .before .before .before .before .before .before .before .apply-but2 .ensures) (c .before .before .before .before .before .q .given .1) (long (c .before .before .before .before .before .before .before .before .before .before .before .before .before .before .before .before .before .before .before .before .before .before .before .before .before .before .before .before .args .base .now) (c .before .before .before .before .before .before .before .before .before .apply-but2 .last .1 .0) (c .before .before .before .before .before .before .before .before .before .before .before .before .before .before .before .before .before .before .before .before .before .before .before .before .before .before .before .before .args .work .now) (c .before .before .before .before .before .before .before .before .before .apply-but2 .kept .1 .0 ∙ c .before .before .before .before .before .before .before .before .before .before .before .before .before .before .before .before .apply-but .kept .1 .0)) (both-fit (c .before .before .before .before .before .before .before .before .before .before .before .before .before .before .before .before .before .before .before .before .before .before .before .before .before .before .before .before .args .base .now) (c .before .before .before .before .before .before .before .before .before .before .before .before .before .before .before .before .before .before .before .before .before .before .before .before .before .before .before .before .args .work .now) (c .before .before .before .before .before .before .before .before .before .before .before .before .before .before .before .before .before .before .before .before .before .before .before .before .before .before .before .before .good .0 .0) (c .before .before .before .before .before .before .before .before .before .before .before .before .before .before .before .before .before .before .before .before .before .before .before .before .before .before .before .before .good .1 .0 .0)) in let s = q .small in omega arith
 
--- src/lib.rt:92:61
 apply-but-add-t70 : (t : ℕ) → apply-but-lts.Need-add-t70 (shape-at-reads.Asked, shape-at-reads.Learnt, find-but-reads.Asked, find-but-reads.Learnt, args-but-below t, args-but.Post, push-reads.Asked, push-reads.Learnt, apply-but-below t, apply-but.Post) (apply-but-at t) apply-but.Post
 apply-but-add-t70 t c = let q = arrow-room (c .before .before .before .before .before .before .before .before .before .before .before .before .before .before .before .before .before .before .before .before .before .before .before .before .before .before .before .before .pre .1 .1) (c .before .before .before .before .before .before .before .before .before .before .before .before .before .before .before .before .before .before .before .before .before .before .before .before .if1 .left) (c .before .before .before .before .before .before .before .before .before .before .before .before .before .before .before .before .before .before .before .before .before .before .before .if2 .left) (c .before .before .before .before .before .before .before .before .before .before .before .before .before .before .before .before .before .before .before .before .before .shape-at .ensures) (c .before .before .before .before .before .before .before .before .before .before .before .before .before .before .before .before .before .before .before .s3 .given .1) (c .before .before .before .before .before .before .before .before .before .before .before .before .before .before .before .before .apply-but .ensures) (c .before .before .before .before .before .before .before .before .before .before .before .before .r3 .given .1) (c .before .before .before .before .before .before .before .before .before .apply-but2 .ensures) (c .before .before .before .before .before .q .given .1) (long (c .before .before .before .before .before .before .before .before .before .before .before .before .before .before .before .before .before .before .before .before .before .before .before .before .before .before .before .before .args .base .now) (c .before .before .before .before .before .before .before .before .before .apply-but2 .last .1 .0) (c .before .before .before .before .before .before .before .before .before .before .before .before .before .before .before .before .before .before .before .before .before .before .before .before .before .before .before .before .args .work .now) (c .before .before .before .before .before .before .before .before .before .apply-but2 .kept .1 .0 ∙ c .before .before .before .before .before .before .before .before .before .before .before .before .before .before .before .before .apply-but .kept .1 .0)) (both-fit (c .before .before .before .before .before .before .before .before .before .before .before .before .before .before .before .before .before .before .before .before .before .before .before .before .before .before .before .before .args .base .now) (c .before .before .before .before .before .before .before .before .before .before .before .before .before .before .before .before .before .before .before .before .before .before .before .before .before .before .before .before .args .work .now) (c .before .before .before .before .before .before .before .before .before .before .before .before .before .before .before .before .before .before .before .before .before .before .before .before .before .before .before .before .good .0 .0) (c .before .before .before .before .before .before .before .before .before .before .before .before .before .before .before .before .before .before .before .before .before .before .before .before .before .before .before .before .good .1 .0 .0)) in let s = q .small in omega arith
 
--- src/lib.rt:94:42
-apply-but-enum-known-q-2 : (t : ℕ) → apply-but-lts.Need-enum-known-q-2 (shape-at-reads.Asked, shape-at-reads.Learnt, find-but-reads.Asked, find-but-reads.Learnt, args-but-below t, args-but.Post, push-reads.Asked, push-reads.Learnt, apply-but-below t, apply-but.Post) (apply-but-at t) apply-but.Post
-apply-but-enum-known-q-2 t c = search needs
-
--- src/lib.rt:97:34
-apply-but-enum-known-r-4 : (t : ℕ) → apply-but-lts.Need-enum-known-r-4 (shape-at-reads.Asked, shape-at-reads.Learnt, find-but-reads.Asked, find-but-reads.Learnt, args-but-below t, args-but.Post, push-reads.Asked, push-reads.Learnt, apply-but-below t, apply-but.Post) (apply-but-at t) apply-but.Post
-apply-but-enum-known-r-4 t c = search needs
-
--- src/lib.rt:36:1
-apply-but-same-length-2 : (t : ℕ) → apply-but-lts.Need-same-length-2 (shape-at-reads.Asked, shape-at-reads.Learnt, find-but-reads.Asked, find-but-reads.Learnt, args-but-below t, args-but.Post, push-reads.Asked, push-reads.Learnt, apply-but-below t, apply-but.Post) (apply-but-at t) apply-but.Post
-apply-but-same-length-2 t c = search needs
-
--- src/lib.rt:36:1
 apply-but-returns-4 : (t : ℕ) → apply-but-lts.Need-returns-4 (shape-at-reads.Asked, shape-at-reads.Learnt, find-but-reads.Asked, find-but-reads.Learnt, args-but-below t, args-but.Post, push-reads.Asked, push-reads.Learnt, apply-but-below t, apply-but.Post) (apply-but-at t) apply-but.Post
 apply-but-returns-4 t c = gives (stays (at-var _ (c .before .before .before .before .before .before .before .before .before .before .before .before .before .before .before .pre .1 .1 .ty .node) _ (c .before .before .before .before .before .before .before .before .before .before .before .if1 .left) (c .before .before .before .before .before .before .before .before .before .before .if2 .left) (c .before .before .before .before .before .before .before .before .shape-at .ensures) (c .before .before .before .before .before .before .s .given .1) (look-at (c .before .before .before .before .before .before .before .before .before .before .before .before .before .before .before .pre .1 .1) _ (c .before .before .before .find-but .ensures) (c .before .f .given .1))) (found-node (c .before .before .before .before .before .before .before .before .before .before .before .before .before .before .before .pre .1 .1) _ (c .before .before .before .find-but .ensures) (c .before .f .given .1)) (omega arith) (omega arith))
 
--- src/lib.rt:36:1
-apply-but-same-length-3 : (t : ℕ) → apply-but-lts.Need-same-length-3 (shape-at-reads.Asked, shape-at-reads.Learnt, find-but-reads.Asked, find-but-reads.Learnt, args-but-below t, args-but.Post, push-reads.Asked, push-reads.Learnt, apply-but-below t, apply-but.Post) (apply-but-at t) apply-but.Post
-apply-but-same-length-3 t c = search needs
-
--- src/lib.rt:36:1
 apply-but-returns-5 : (t : ℕ) → apply-but-lts.Need-returns-5 (shape-at-reads.Asked, shape-at-reads.Learnt, find-but-reads.Asked, find-but-reads.Learnt, args-but-below t, args-but.Post, push-reads.Asked, push-reads.Learnt, apply-but-below t, apply-but.Post) (apply-but-at t) apply-but.Post
 apply-but-returns-5 t c = gives (stays (at-free _ (c .before .before .before .before .before .before .before .before .before .before .before .before .before .before .pre .1 .1 .ty .node) _ (c .before .before .before .before .before .before .before .before .before .before .if1 .left) (c .before .before .before .before .before .before .before .before .before .if2 .left) (c .before .before .before .before .before .before .before .shape-at .ensures) (c .before .before .before .before .before .s .given .1) (look-nothing (c .before .before .before .before .before .before .before .before .before .before .before .before .before .before .pre .1 .1) _ (c .before .before .find-but .ensures) (c .enum-told .given .1))) (var-node (c .before .before .before .before .before .before .before .before .before .before .before .before .before .before .pre .1 .1 .ty .node) (c .before .before .before .before .before .before .before .shape-at .ensures) (c .before .before .before .before .before .s .given .1)) (omega arith) (omega arith))
 
--- src/lib.rt:36:1
-apply-but-same-length-4 : (t : ℕ) → apply-but-lts.Need-same-length-4 (shape-at-reads.Asked, shape-at-reads.Learnt, find-but-reads.Asked, find-but-reads.Learnt, args-but-below t, args-but.Post, push-reads.Asked, push-reads.Learnt, apply-but-below t, apply-but.Post) (apply-but-at t) apply-but.Post
-apply-but-same-length-4 t c = search needs
-
--- src/lib.rt:36:1
 apply-but-returns-6 : (t : ℕ) → apply-but-lts.Need-returns-6 (shape-at-reads.Asked, shape-at-reads.Learnt, find-but-reads.Asked, find-but-reads.Learnt, args-but-below t, args-but.Post, push-reads.Asked, push-reads.Learnt, apply-but-below t, apply-but.Post) (apply-but-at t) apply-but.Post
 apply-but-returns-6 t c = con-done (c .before .before .before .before .before .before .before .before .before .before .before .before .before .before .before .before .before .before .before .before .before .before .pre .1 .1) (c .before .before .before .before .before .before .before .before .before .before .before .before .before .before .before .before .before .before .if1 .left) (c .before .before .before .before .before .before .before .before .before .before .before .before .before .before .before .before .before .if2 .left) (c .before .before .before .before .before .before .before .before .before .before .before .before .before .before .before .shape-at .ensures) (c .before .before .before .before .before .before .before .before .before .before .before .before .before .s2 .given .1) (c .before .before .before .before .before .before .before .before .before .args-but .ensures) (c .before .before .before .before .before .r .given .1) (long (c .before .before .before .before .before .before .before .before .before .before .before .before .before .before .before .before .before .before .before .before .before .before .args .base .now) (c .before .before .before .before .before .before .before .before .before .args-but .last .1 .0) (c .before .before .before .before .before .before .before .before .before .before .before .before .before .before .before .before .before .before .before .before .before .before .args .work .now) (c .before .before .before .before .before .before .before .before .before .args-but .kept .1 .0)) (both-fit (c .before .before .before .before .before .before .before .before .before .before .before .before .before .before .before .before .before .before .before .before .before .before .args .base .now) (c .before .before .before .before .before .before .before .before .before .before .before .before .before .before .before .before .before .before .before .before .before .before .args .work .now) (c .before .before .before .before .before .before .before .before .before .before .before .before .before .before .before .before .before .before .before .before .before .before .good .0 .0) (c .before .before .before .before .before .before .before .before .before .before .before .before .before .before .before .before .before .before .before .before .before .before .good .1 .0 .0)) (c .before .before .push .ensures)
 
--- src/lib.rt:36:1
-apply-but-same-length-5 : (t : ℕ) → apply-but-lts.Need-same-length-5 (shape-at-reads.Asked, shape-at-reads.Learnt, find-but-reads.Asked, find-but-reads.Learnt, args-but-below t, args-but.Post, push-reads.Asked, push-reads.Learnt, apply-but-below t, apply-but.Post) (apply-but-at t) apply-but.Post
-apply-but-same-length-5 t c = search needs
-
--- src/lib.rt:36:1
 apply-but-returns-7 : (t : ℕ) → apply-but-lts.Need-returns-7 (shape-at-reads.Asked, shape-at-reads.Learnt, find-but-reads.Asked, find-but-reads.Learnt, args-but-below t, args-but.Post, push-reads.Asked, push-reads.Learnt, apply-but-below t, apply-but.Post) (apply-but-at t) apply-but.Post
 apply-but-returns-7 t c = con-refused (c .before .before .before .before .before .before .before .before .before .before .before .before .before .before .before .before .before .before .pre .1 .1) (c .before .before .before .before .before .before .before .before .before .before .before .before .before .before .if1 .left) (c .before .before .before .before .before .before .before .before .before .before .before .before .before .if2 .left) (c .before .before .before .before .before .before .before .before .before .before .before .shape-at .ensures) (c .before .before .before .before .before .before .before .before .before .s2 .given .1) (c .before .before .before .before .before .args-but .ensures) (c .before .r2 .given .1)
 
--- src/lib.rt:36:1
-apply-but-same-length-6 : (t : ℕ) → apply-but-lts.Need-same-length-6 (shape-at-reads.Asked, shape-at-reads.Learnt, find-but-reads.Asked, find-but-reads.Learnt, args-but-below t, args-but.Post, push-reads.Asked, push-reads.Learnt, apply-but-below t, apply-but.Post) (apply-but-at t) apply-but.Post
-apply-but-same-length-6 t c = search needs
-
--- src/lib.rt:36:1
 apply-but-returns-8 : (t : ℕ) → apply-but-lts.Need-returns-8 (shape-at-reads.Asked, shape-at-reads.Learnt, find-but-reads.Asked, find-but-reads.Learnt, args-but-below t, args-but.Post, push-reads.Asked, push-reads.Learnt, apply-but-below t, apply-but.Post) (apply-but-at t) apply-but.Post
 apply-but-returns-8 t c = arrow-done (c .before .before .before .before .before .before .before .before .before .before .before .before .before .before .before .before .before .before .before .before .before .before .before .before .before .before .before .before .pre .1 .1) (c .before .before .before .before .before .before .before .before .before .before .before .before .before .before .before .before .before .before .before .before .before .before .before .before .if1 .left) (c .before .before .before .before .before .before .before .before .before .before .before .before .before .before .before .before .before .before .before .before .before .before .before .if2 .left) (c .before .before .before .before .before .before .before .before .before .before .before .before .before .before .before .before .before .before .before .before .before .shape-at .ensures) (c .before .before .before .before .before .before .before .before .before .before .before .before .before .before .before .before .before .before .before .s3 .given .1) (c .before .before .before .before .before .before .before .before .before .before .before .before .before .before .before .before .apply-but .ensures) (c .before .before .before .before .before .before .before .before .before .before .before .before .r3 .given .1) (c .before .before .before .before .before .before .before .before .before .apply-but2 .ensures) (c .before .before .before .before .before .q .given .1) (long (c .before .before .before .before .before .before .before .before .before .before .before .before .before .before .before .before .before .before .before .before .before .before .before .before .before .before .before .before .args .base .now) (c .before .before .before .before .before .before .before .before .before .apply-but2 .last .1 .0) (c .before .before .before .before .before .before .before .before .before .before .before .before .before .before .before .before .before .before .before .before .before .before .before .before .before .before .before .before .args .work .now) (c .before .before .before .before .before .before .before .before .before .apply-but2 .kept .1 .0 ∙ c .before .before .before .before .before .before .before .before .before .before .before .before .before .before .before .before .apply-but .kept .1 .0)) (both-fit (c .before .before .before .before .before .before .before .before .before .before .before .before .before .before .before .before .before .before .before .before .before .before .before .before .before .before .before .before .args .base .now) (c .before .before .before .before .before .before .before .before .before .before .before .before .before .before .before .before .before .before .before .before .before .before .before .before .before .before .before .before .args .work .now) (c .before .before .before .before .before .before .before .before .before .before .before .before .before .before .before .before .before .before .before .before .before .before .before .before .before .before .before .before .good .0 .0) (c .before .before .before .before .before .before .before .before .before .before .before .before .before .before .before .before .before .before .before .before .before .before .before .before .before .before .before .before .good .1 .0 .0)) (c .before .before .push2 .ensures)
 
--- src/lib.rt:36:1
-apply-but-same-length-7 : (t : ℕ) → apply-but-lts.Need-same-length-7 (shape-at-reads.Asked, shape-at-reads.Learnt, find-but-reads.Asked, find-but-reads.Learnt, args-but-below t, args-but.Post, push-reads.Asked, push-reads.Learnt, apply-but-below t, apply-but.Post) (apply-but-at t) apply-but.Post
-apply-but-same-length-7 t c = search needs
-
--- src/lib.rt:36:1
 apply-but-returns-9 : (t : ℕ) → apply-but-lts.Need-returns-9 (shape-at-reads.Asked, shape-at-reads.Learnt, find-but-reads.Asked, find-but-reads.Learnt, args-but-below t, args-but.Post, push-reads.Asked, push-reads.Learnt, apply-but-below t, apply-but.Post) (apply-but-at t) apply-but.Post
 apply-but-returns-9 t c = arrow-refused-2 (c .before .before .before .before .before .before .before .before .before .before .before .before .before .before .before .before .before .before .before .before .before .before .before .before .pre .1 .1) (c .before .before .before .before .before .before .before .before .before .before .before .before .before .before .before .before .before .before .before .before .if1 .left) (c .before .before .before .before .before .before .before .before .before .before .before .before .before .before .before .before .before .before .before .if2 .left) (c .before .before .before .before .before .before .before .before .before .before .before .before .before .before .before .before .before .shape-at .ensures) (c .before .before .before .before .before .before .before .before .before .before .before .before .before .before .before .s3 .given .1) (c .before .before .before .before .before .before .before .before .before .before .before .before .apply-but .ensures) (c .before .before .before .before .before .before .before .before .r3 .given .1) (c .before .before .before .before .before .apply-but2 .ensures) (c .before .q2 .given .1)
 
--- src/lib.rt:36:1
-apply-but-same-length-8 : (t : ℕ) → apply-but-lts.Need-same-length-8 (shape-at-reads.Asked, shape-at-reads.Learnt, find-but-reads.Asked, find-but-reads.Learnt, args-but-below t, args-but.Post, push-reads.Asked, push-reads.Learnt, apply-but-below t, apply-but.Post) (apply-but-at t) apply-but.Post
-apply-but-same-length-8 t c = search needs
-
--- src/lib.rt:36:1
 apply-but-returns-10 : (t : ℕ) → apply-but-lts.Need-returns-10 (shape-at-reads.Asked, shape-at-reads.Learnt, find-but-reads.Asked, find-but-reads.Learnt, args-but-below t, args-but.Post, push-reads.Asked, push-reads.Learnt, apply-but-below t, apply-but.Post) (apply-but-at t) apply-but.Post
 apply-but-returns-10 t c = arrow-refused (c .before .before .before .before .before .before .before .before .before .before .before .before .before .before .before .before .before .pre .1 .1) (c .before .before .before .before .before .before .before .before .before .before .before .before .before .if1 .left) (c .before .before .before .before .before .before .before .before .before .before .before .before .if2 .left) (c .before .before .before .before .before .before .before .before .before .before .shape-at .ensures) (c .before .before .before .before .before .before .before .before .s3 .given .1) (c .before .before .before .before .before .apply-but .ensures) (c .before .r4 .given .1)
 
--- src/lib.rt:122:9
 args-but-cell-at-requires : (t : ℕ) → args-but-lts.Need-cell-at-requires (cell-at-reads.Asked, cell-at-reads.Learnt, apply-but-below t, apply-but.Post, args-but-below t, args-but.Post, push-reads.Asked, push-reads.Learnt) (args-but-at t) args-but.Post
 args-but-cell-at-requires t c κs = node-room (c .before .before .before .before .pre .1 .1 .ty .node)
 
--- src/lib.rt:124:22
-args-but-enum-told : (t : ℕ) → args-but-lts.Need-enum-told (cell-at-reads.Asked, cell-at-reads.Learnt, apply-but-below t, apply-but.Post, args-but-below t, args-but.Post, push-reads.Asked, push-reads.Learnt) (args-but-at t) args-but.Post
-args-but-enum-told t c = search needs
-
--- src/lib.rt:125:20
-args-but-enum-known-c : (t : ℕ) → args-but-lts.Need-enum-known-c (cell-at-reads.Asked, cell-at-reads.Learnt, apply-but-below t, apply-but.Post, args-but-below t, args-but.Post, push-reads.Asked, push-reads.Learnt) (args-but-at t) args-but.Post
-args-but-enum-known-c t c = search needs
-
--- src/lib.rt:126:17
 args-but-apply-but-requires : (t : ℕ) → args-but-lts.Need-apply-but-requires (cell-at-reads.Asked, cell-at-reads.Learnt, apply-but-below t, apply-but.Post, args-but-below t, args-but.Post, push-reads.Asked, push-reads.Learnt) (args-but-at t) args-but.Post
 args-but-apply-but-requires t c κs = let k = cons-head (c .before .before .before .before .before .before .before .before .before .pre .1 .1 .ty .node) (c .before .before .before .before .cell-at .ensures) (c .before .before .c .given .1) in (omega arith, (c .before .before .before .before .before .before .before .before .before .pre .1 .0, but-first (c .before .before .before .before .before .before .before .before .before .pre .1 .1) (omega arith) (k .1)))
 
--- src/lib.rt:128:31
-args-but-enum-known-r : (t : ℕ) → args-but-lts.Need-enum-known-r (cell-at-reads.Asked, cell-at-reads.Learnt, apply-but-below t, apply-but.Post, args-but-below t, args-but.Post, push-reads.Asked, push-reads.Learnt) (args-but-at t) args-but.Post
-args-but-enum-known-r t c = search needs
-
--- src/lib.rt:129:25
 args-but-args-but-requires : (t : ℕ) → args-but-lts.Need-args-but-requires (cell-at-reads.Asked, cell-at-reads.Learnt, apply-but-below t, apply-but.Post, args-but-below t, args-but.Post, push-reads.Asked, push-reads.Learnt) (args-but-at t) args-but.Post
 args-but-args-but-requires t c κs = let k = cons-tail (c .before .before .before .before .before .before .before .before .before .before .before .before .before .before .before .before .pre .1 .1 .ty .node) (c .before .before .before .before .before .before .before .before .before .before .before .cell-at .ensures) (c .before .before .before .before .before .before .before .before .before .c .given .1) in let q = cons-next _ (c .before .before .before .before .before .before .before .before .before .before .before .before .before .before .before .before .pre .1 .1) (c .before .before .before .before .before .before .before .before .before .before .before .cell-at .ensures) (c .before .before .before .before .before .before .before .before .before .c .given .1) (c .before .before .before .before .before .before .apply-but .ensures) (c .before .before .r .given .1) (long (c .before .before .before .before .before .before .before .before .before .before .before .before .before .before .before .before .args .base .now) (c .before .before .before .before .before .before .apply-but .last .1 .0) (c .before .before .before .before .before .before .before .before .before .before .before .before .before .before .before .before .args .work .now) (c .before .before .before .before .before .before .apply-but .kept .1 .0)) in let m = q .0 in let cl = c .before .before .before .before .before .before .before .before .before .before .before .before .before .before .before .before .pre .1 .0 in (omega arith, (omega arith, q .1))
 
--- src/lib.rt:131:39
-args-but-enum-known-q : (t : ℕ) → args-but-lts.Need-enum-known-q (cell-at-reads.Asked, cell-at-reads.Learnt, apply-but-below t, apply-but.Post, args-but-below t, args-but.Post, push-reads.Asked, push-reads.Learnt) (args-but-at t) args-but.Post
-args-but-enum-known-q t c = search needs
-
--- src/lib.rt:132:29
 args-but-push-requires : (t : ℕ) → args-but-lts.Need-push-requires (cell-at-reads.Asked, cell-at-reads.Learnt, apply-but-below t, apply-but.Post, args-but-below t, args-but.Post, push-reads.Asked, push-reads.Learnt) (args-but-at t) args-but.Post
 args-but-push-requires t c κs = let q = cons-room _ (c .before .before .before .before .before .before .before .before .before .before .before .before .before .before .before .before .before .before .before .before .before .before .before .pre .1 .1) (c .before .before .before .before .before .before .before .before .before .before .before .before .before .before .before .before .before .before .cell-at .ensures) (c .before .before .before .before .before .before .before .before .before .before .before .before .before .before .before .before .c .given .1) (c .before .before .before .before .before .before .before .before .before .before .before .before .before .apply-but .ensures) (c .before .before .before .before .before .before .before .before .before .r .given .1) (c .before .before .before .before .before .before .args-but .ensures) (c .before .before .q .given .1) (long (c .before .before .before .before .before .before .before .before .before .before .before .before .before .before .before .before .before .before .before .before .before .before .before .args .base .now) (c .before .before .before .before .before .before .args-but .last .1 .0) (c .before .before .before .before .before .before .before .before .before .before .before .before .before .before .before .before .before .before .before .before .before .before .before .args .work .now) (c .before .before .before .before .before .before .args-but .kept .1 .0 ∙ c .before .before .before .before .before .before .before .before .before .before .before .before .before .apply-but .kept .1 .0)) (both-fit (c .before .before .before .before .before .before .before .before .before .before .before .before .before .before .before .before .before .before .before .before .before .before .before .args .base .now) (c .before .before .before .before .before .before .before .before .before .before .before .before .before .before .before .before .before .before .before .before .before .before .before .args .work .now) (c .before .before .before .before .before .before .before .before .before .before .before .before .before .before .before .before .before .before .before .before .before .before .before .good .0 .0) (c .before .before .before .before .before .before .before .before .before .before .before .before .before .before .before .before .before .before .before .before .before .before .before .good .1 .0 .0)) in let m = q .more in let cl = c .before .before .before .before .before .before .before .before .before .before .before .before .before .before .before .before .before .before .before .before .before .before .before .pre .1 .0 in (omega arith, q .room)
 
--- src/lib.rt:133:43
 args-but-add-t40 : (t : ℕ) → args-but-lts.Need-add-t40 (cell-at-reads.Asked, cell-at-reads.Learnt, apply-but-below t, apply-but.Post, args-but-below t, args-but.Post, push-reads.Asked, push-reads.Learnt) (args-but-at t) args-but.Post
 args-but-add-t40 t c = let q = cons-room _ (c .before .before .before .before .before .before .before .before .before .before .before .before .before .before .before .before .before .before .before .before .before .before .before .before .before .before .pre .1 .1) (c .before .before .before .before .before .before .before .before .before .before .before .before .before .before .before .before .before .before .before .before .before .cell-at .ensures) (c .before .before .before .before .before .before .before .before .before .before .before .before .before .before .before .before .before .before .before .c .given .1) (c .before .before .before .before .before .before .before .before .before .before .before .before .before .before .before .before .apply-but .ensures) (c .before .before .before .before .before .before .before .before .before .before .before .before .r .given .1) (c .before .before .before .before .before .before .before .before .before .args-but .ensures) (c .before .before .before .before .before .q .given .1) (long (c .before .before .before .before .before .before .before .before .before .before .before .before .before .before .before .before .before .before .before .before .before .before .before .before .before .before .args .base .now) (c .before .before .before .before .before .before .before .before .before .args-but .last .1 .0) (c .before .before .before .before .before .before .before .before .before .before .before .before .before .before .before .before .before .before .before .before .before .before .before .before .before .before .args .work .now) (c .before .before .before .before .before .before .before .before .before .args-but .kept .1 .0 ∙ c .before .before .before .before .before .before .before .before .before .before .before .before .before .before .before .before .apply-but .kept .1 .0)) (both-fit (c .before .before .before .before .before .before .before .before .before .before .before .before .before .before .before .before .before .before .before .before .before .before .before .before .before .before .args .base .now) (c .before .before .before .before .before .before .before .before .before .before .before .before .before .before .before .before .before .before .before .before .before .before .before .before .before .before .args .work .now) (c .before .before .before .before .before .before .before .before .before .before .before .before .before .before .before .before .before .before .before .before .before .before .before .before .before .before .good .0 .0) (c .before .before .before .before .before .before .before .before .before .before .before .before .before .before .before .before .before .before .before .before .before .before .before .before .before .before .good .1 .0 .0)) in let s = q .small in omega arith
 
--- src/lib.rt:133:61
 args-but-add-t41 : (t : ℕ) → args-but-lts.Need-add-t41 (cell-at-reads.Asked, cell-at-reads.Learnt, apply-but-below t, apply-but.Post, args-but-below t, args-but.Post, push-reads.Asked, push-reads.Learnt) (args-but-at t) args-but.Post
 args-but-add-t41 t c = let q = cons-room _ (c .before .before .before .before .before .before .before .before .before .before .before .before .before .before .before .before .before .before .before .before .before .before .before .before .before .before .pre .1 .1) (c .before .before .before .before .before .before .before .before .before .before .before .before .before .before .before .before .before .before .before .before .before .cell-at .ensures) (c .before .before .before .before .before .before .before .before .before .before .before .before .before .before .before .before .before .before .before .c .given .1) (c .before .before .before .before .before .before .before .before .before .before .before .before .before .before .before .before .apply-but .ensures) (c .before .before .before .before .before .before .before .before .before .before .before .before .r .given .1) (c .before .before .before .before .before .before .before .before .before .args-but .ensures) (c .before .before .before .before .before .q .given .1) (long (c .before .before .before .before .before .before .before .before .before .before .before .before .before .before .before .before .before .before .before .before .before .before .before .before .before .before .args .base .now) (c .before .before .before .before .before .before .before .before .before .args-but .last .1 .0) (c .before .before .before .before .before .before .before .before .before .before .before .before .before .before .before .before .before .before .before .before .before .before .before .before .before .before .args .work .now) (c .before .before .before .before .before .before .before .before .before .args-but .kept .1 .0 ∙ c .before .before .before .before .before .before .before .before .before .before .before .before .before .before .before .before .apply-but .kept .1 .0)) (both-fit (c .before .before .before .before .before .before .before .before .before .before .before .before .before .before .before .before .before .before .before .before .before .before .before .before .before .before .args .base .now) (c .before .before .before .before .before .before .before .before .before .before .before .before .before .before .before .before .before .before .before .before .before .before .before .before .before .before .args .work .now) (c .before .before .before .before .before .before .before .before .before .before .before .before .before .before .before .before .before .before .before .before .before .before .before .before .before .before .good .0 .0) (c .before .before .before .before .before .before .before .before .before .before .before .before .before .before .before .before .before .before .before .before .before .before .before .before .before .before .good .1 .0 .0)) in let s = q .small in omega arith
 
--- src/lib.rt:135:42
-args-but-enum-known-q-2 : (t : ℕ) → args-but-lts.Need-enum-known-q-2 (cell-at-reads.Asked, cell-at-reads.Learnt, apply-but-below t, apply-but.Post, args-but-below t, args-but.Post, push-reads.Asked, push-reads.Learnt) (args-but-at t) args-but.Post
-args-but-enum-known-q-2 t c = search needs
-
--- src/lib.rt:138:34
-args-but-enum-known-r-2 : (t : ℕ) → args-but-lts.Need-enum-known-r-2 (cell-at-reads.Asked, cell-at-reads.Learnt, apply-but-below t, apply-but.Post, args-but-below t, args-but.Post, push-reads.Asked, push-reads.Learnt) (args-but-at t) args-but.Post
-args-but-enum-known-r-2 t c = search needs
-
--- src/lib.rt:104:1
-args-but-same-length : (t : ℕ) → args-but-lts.Need-same-length (cell-at-reads.Asked, cell-at-reads.Learnt, apply-but-below t, apply-but.Post, args-but-below t, args-but.Post, push-reads.Asked, push-reads.Learnt) (args-but-at t) args-but.Post
-args-but-same-length t c = search needs
-
--- src/lib.rt:104:1
 args-but-returns : (t : ℕ) → args-but-lts.Need-returns (cell-at-reads.Asked, cell-at-reads.Learnt, apply-but-below t, apply-but.Post, args-but-below t, args-but.Post, push-reads.Asked, push-reads.Learnt) (args-but-at t) args-but.Post
 args-but-returns t c = gives (stays (at-nil _ (c .before .before .before .before .before .before .before .pre .1 .1 .ty .node) _ _ _ (c .before .before .cell-at .ensures) (c .enum-told .given .1)) (c .before .before .before .before .before .before .before .pre .1 .1 .ty .node) (omega arith) (omega arith))
 
--- src/lib.rt:104:1
-args-but-same-length-2 : (t : ℕ) → args-but-lts.Need-same-length-2 (cell-at-reads.Asked, cell-at-reads.Learnt, apply-but-below t, apply-but.Post, args-but-below t, args-but.Post, push-reads.Asked, push-reads.Learnt) (args-but-at t) args-but.Post
-args-but-same-length-2 t c = search needs
-
--- src/lib.rt:104:1
 args-but-returns-2 : (t : ℕ) → args-but-lts.Need-returns-2 (cell-at-reads.Asked, cell-at-reads.Learnt, apply-but-below t, apply-but.Post, args-but-below t, args-but.Post, push-reads.Asked, push-reads.Learnt) (args-but-at t) args-but.Post
 args-but-returns-2 t c = cons-done _ (c .before .before .before .before .before .before .before .before .before .before .before .before .before .before .before .before .before .before .before .before .before .before .before .before .before .before .pre .1 .1) (c .before .before .before .before .before .before .before .before .before .before .before .before .before .before .before .before .before .before .before .before .before .cell-at .ensures) (c .before .before .before .before .before .before .before .before .before .before .before .before .before .before .before .before .before .before .before .c .given .1) (c .before .before .before .before .before .before .before .before .before .before .before .before .before .before .before .before .apply-but .ensures) (c .before .before .before .before .before .before .before .before .before .before .before .before .r .given .1) (c .before .before .before .before .before .before .before .before .before .args-but .ensures) (c .before .before .before .before .before .q .given .1) (long (c .before .before .before .before .before .before .before .before .before .before .before .before .before .before .before .before .before .before .before .before .before .before .before .before .before .before .args .base .now) (c .before .before .before .before .before .before .before .before .before .args-but .last .1 .0) (c .before .before .before .before .before .before .before .before .before .before .before .before .before .before .before .before .before .before .before .before .before .before .before .before .before .before .args .work .now) (c .before .before .before .before .before .before .before .before .before .args-but .kept .1 .0 ∙ c .before .before .before .before .before .before .before .before .before .before .before .before .before .before .before .before .apply-but .kept .1 .0)) (both-fit (c .before .before .before .before .before .before .before .before .before .before .before .before .before .before .before .before .before .before .before .before .before .before .before .before .before .before .args .base .now) (c .before .before .before .before .before .before .before .before .before .before .before .before .before .before .before .before .before .before .before .before .before .before .before .before .before .before .args .work .now) (c .before .before .before .before .before .before .before .before .before .before .before .before .before .before .before .before .before .before .before .before .before .before .before .before .before .before .good .0 .0) (c .before .before .before .before .before .before .before .before .before .before .before .before .before .before .before .before .before .before .before .before .before .before .before .before .before .before .good .1 .0 .0)) (c .before .before .push .ensures)
 
--- src/lib.rt:104:1
-args-but-same-length-3 : (t : ℕ) → args-but-lts.Need-same-length-3 (cell-at-reads.Asked, cell-at-reads.Learnt, apply-but-below t, apply-but.Post, args-but-below t, args-but.Post, push-reads.Asked, push-reads.Learnt) (args-but-at t) args-but.Post
-args-but-same-length-3 t c = search needs
-
--- src/lib.rt:104:1
 args-but-returns-3 : (t : ℕ) → args-but-lts.Need-returns-3 (cell-at-reads.Asked, cell-at-reads.Learnt, apply-but-below t, apply-but.Post, args-but-below t, args-but.Post, push-reads.Asked, push-reads.Learnt) (args-but-at t) args-but.Post
 args-but-returns-3 t c = cons-refused-2 _ (c .before .before .before .before .before .before .before .before .before .before .before .before .before .before .before .before .before .before .before .before .before .before .pre .1 .1) (c .before .before .before .before .before .before .before .before .before .before .before .before .before .before .before .before .before .cell-at .ensures) (c .before .before .before .before .before .before .before .before .before .before .before .before .before .before .before .c .given .1) (c .before .before .before .before .before .before .before .before .before .before .before .before .apply-but .ensures) (c .before .before .before .before .before .before .before .before .r .given .1) (c .before .before .before .before .before .args-but .ensures) (c .before .q2 .given .1)
 
--- src/lib.rt:104:1
-args-but-same-length-4 : (t : ℕ) → args-but-lts.Need-same-length-4 (cell-at-reads.Asked, cell-at-reads.Learnt, apply-but-below t, apply-but.Post, args-but-below t, args-but.Post, push-reads.Asked, push-reads.Learnt) (args-but-at t) args-but.Post
-args-but-same-length-4 t c = search needs
-
--- src/lib.rt:104:1
 args-but-returns-4 : (t : ℕ) → args-but-lts.Need-returns-4 (cell-at-reads.Asked, cell-at-reads.Learnt, apply-but-below t, apply-but.Post, args-but-below t, args-but.Post, push-reads.Asked, push-reads.Learnt) (args-but-at t) args-but.Post
 args-but-returns-4 t c = cons-refused _ (c .before .before .before .before .before .before .before .before .before .before .before .before .before .before .before .pre .1 .1) (c .before .before .before .before .before .before .before .before .before .before .cell-at .ensures) (c .before .before .before .before .before .before .before .before .c .given .1) (c .before .before .before .before .before .apply-but .ensures) (c .before .r2 .given .1)
 
@@ -298,66 +143,66 @@ pub +apply-but+args-but-spec : {M : Type 1} → statement M
     apply-but.Post
     (apply-but-returns t)
     (apply-but-returns-2 t)
-    (apply-but-sub-d t)
-    (apply-but-sub-l t)
+    (λ c. omega arith)
+    (λ c. omega arith)
     (apply-but-shape-at-requires t)
-    (apply-but-enum-known-s t)
+    (λ c. search needs)
     (apply-but-find-but-requires t)
-    (apply-but-enum-known-f t)
-    (apply-but-enum-told t)
-    (apply-but-enum-known-s-2 t)
-    (apply-but-same-length t)
+    (λ c. search needs)
+    (λ c. search needs)
+    (λ c. search needs)
+    (λ c. search needs)
     (apply-but-returns-3 t)
     (apply-but-args-but-requires t)
-    (apply-but-enum-known-r t)
+    (λ c. search needs)
     (apply-but-push-requires t)
     (apply-but-add-t58 t)
     (apply-but-add-t59 t)
-    (apply-but-enum-known-r-2 t)
-    (apply-but-enum-known-s-3 t)
+    (λ c. search needs)
+    (λ c. search needs)
     (apply-but-apply-but-requires t)
-    (apply-but-enum-known-r-3 t)
+    (λ c. search needs)
     (apply-but-apply-but-requires-2 t)
-    (apply-but-enum-known-q t)
+    (λ c. search needs)
     (apply-but-push-requires-2 t)
     (apply-but-add-t69 t)
     (apply-but-add-t70 t)
-    (apply-but-enum-known-q-2 t)
-    (apply-but-enum-known-r-4 t)
-    (apply-but-same-length-2 t)
+    (λ c. search needs)
+    (λ c. search needs)
+    (λ c. search needs)
     (apply-but-returns-4 t)
-    (apply-but-same-length-3 t)
+    (λ c. search needs)
     (apply-but-returns-5 t)
-    (apply-but-same-length-4 t)
+    (λ c. search needs)
     (apply-but-returns-6 t)
-    (apply-but-same-length-5 t)
+    (λ c. search needs)
     (apply-but-returns-7 t)
-    (apply-but-same-length-6 t)
+    (λ c. search needs)
     (apply-but-returns-8 t)
-    (apply-but-same-length-7 t)
+    (λ c. search needs)
     (apply-but-returns-9 t)
-    (apply-but-same-length-8 t)
+    (λ c. search needs)
     (apply-but-returns-10 t))
     λ t. args-but-lts.spec (cell-at-reads.Asked, cell-at-reads.Learnt, apply-but-below t, apply-but.Post, args-but-below t, args-but.Post, push-reads.Asked, push-reads.Learnt)
     (args-but-at t)
     args-but.Post
     (args-but-cell-at-requires t)
-    (args-but-enum-told t)
-    (args-but-enum-known-c t)
+    (λ c. search needs)
+    (λ c. search needs)
     (args-but-apply-but-requires t)
-    (args-but-enum-known-r t)
+    (λ c. search needs)
     (args-but-args-but-requires t)
-    (args-but-enum-known-q t)
+    (λ c. search needs)
     (args-but-push-requires t)
     (args-but-add-t40 t)
     (args-but-add-t41 t)
-    (args-but-enum-known-q-2 t)
-    (args-but-enum-known-r-2 t)
-    (args-but-same-length t)
+    (λ c. search needs)
+    (λ c. search needs)
+    (λ c. search needs)
     (args-but-returns t)
-    (args-but-same-length-2 t)
+    (λ c. search needs)
     (args-but-returns-2 t)
-    (args-but-same-length-3 t)
+    (λ c. search needs)
     (args-but-returns-3 t)
-    (args-but-same-length-4 t)
+    (λ c. search needs)
     (args-but-returns-4 t)

@@ -43,95 +43,72 @@ abbrev free-types-below : ℕ → In 3 free-types-kinds.ps
 free-types-below t =
     and 3 free-types-kinds.ps (falls 3 free-types-kinds.ps _<_ μ-free-types t) free-types.Pre
 
--- src/lib.rt:56:9
 free-type-shape-at-requires : (t : ℕ) → free-type-lts.Need-shape-at-requires (shape-at-reads.Asked, shape-at-reads.Learnt, add-but-reads.Asked, add-but-reads.Learnt, free-types-below t, free-types.Post, free-type-below t, free-type.Post) (free-type-at t) free-type.Post
 free-type-shape-at-requires t c κs = node-room (c .before .before .before .before .pre .1 .1 .1 .1 .0)
 
--- src/lib.rt:58:20
 free-type-enum-known-s : (t : ℕ) → free-type-lts.Need-enum-known-s (shape-at-reads.Asked, shape-at-reads.Learnt, add-but-reads.Asked, add-but-reads.Learnt, free-types-below t, free-types.Post, free-type-below t, free-type.Post) (free-type-at t) free-type.Post
 free-type-enum-known-s t c = search needs
 
--- src/lib.rt:58:26
 free-type-add-but-requires : (t : ℕ) → free-type-lts.Need-add-but-requires (shape-at-reads.Asked, shape-at-reads.Learnt, add-but-reads.Asked, add-but-reads.Learnt, free-types-below t, free-types.Post, free-type-below t, free-type.Post) (free-type-at t) free-type.Post
 free-type-add-but-requires t c κs = (c .before .before .before .before .before .before .before .before .before .pre .1 .0, (c .before .before .before .before .before .before .before .before .before .pre .1 .1 .0, (c .before .before .before .before .before .before .before .before .before .pre .1 .1 .1 .0, (var-node (c .before .before .before .before .before .before .before .before .before .pre .1 .1 .1 .1 .0) (c .before .before .before .before .shape-at .ensures) (c .before .before .s .given .1), wants-as refl (at-var _ (c .before .before .before .before .before .before .before .before .before .pre .1 .1 .1 .1 .0) (c .before .before .before .before .shape-at .ensures) _ _ (c .before .before .s .given .1)) (c .before .before .before .before .before .before .before .before .before .pre .1 .1 .1 .1 .1)))))
 
--- src/lib.rt:59:23
 free-type-enum-known-s-2 : (t : ℕ) → free-type-lts.Need-enum-known-s-2 (shape-at-reads.Asked, shape-at-reads.Learnt, add-but-reads.Asked, add-but-reads.Learnt, free-types-below t, free-types.Post, free-type-below t, free-type.Post) (free-type-at t) free-type.Post
 free-type-enum-known-s-2 t c = search needs
 
--- src/lib.rt:59:29
 free-type-free-types-requires : (t : ℕ) → free-type-lts.Need-free-types-requires (shape-at-reads.Asked, shape-at-reads.Learnt, add-but-reads.Asked, add-but-reads.Learnt, free-types-below t, free-types.Post, free-type-below t, free-type.Post) (free-type-at t) free-type.Post
 free-type-free-types-requires t c κs = let k = con-child (c .before .before .before .before .before .before .before .before .before .pre .1 .1 .1 .1 .0) (c .before .before .before .before .shape-at .ensures) (c .before .before .s2 .given .1) in (omega arith, (c .before .before .before .before .before .before .before .before .before .pre .1 .0, (c .before .before .before .before .before .before .before .before .before .pre .1 .1 .0, (c .before .before .before .before .before .before .before .before .before .pre .1 .1 .1 .0, (k .1, wants-as refl (at-con _ (c .before .before .before .before .before .before .before .before .before .pre .1 .1 .1 .1 .0) (c .before .before .before .before .shape-at .ensures) _ _ (c .before .before .s2 .given .1)) (c .before .before .before .before .before .before .before .before .before .pre .1 .1 .1 .1 .1))))))
 
--- src/lib.rt:60:22
 free-type-enum-known-s-3 : (t : ℕ) → free-type-lts.Need-enum-known-s-3 (shape-at-reads.Asked, shape-at-reads.Learnt, add-but-reads.Asked, add-but-reads.Learnt, free-types-below t, free-types.Post, free-type-below t, free-type.Post) (free-type-at t) free-type.Post
 free-type-enum-known-s-3 t c = search needs
 
--- src/lib.rt:61:17
 free-type-free-type-requires : (t : ℕ) → free-type-lts.Need-free-type-requires (shape-at-reads.Asked, shape-at-reads.Learnt, add-but-reads.Asked, add-but-reads.Learnt, free-types-below t, free-types.Post, free-type-below t, free-type.Post) (free-type-at t) free-type.Post
 free-type-free-type-requires t c κs = let k = arrow-left (c .before .before .before .before .before .before .before .before .before .pre .1 .1 .1 .1 .0) (c .before .before .before .before .shape-at .ensures) (c .before .before .s3 .given .1) in (omega arith, (c .before .before .before .before .before .before .before .before .before .pre .1 .0, (c .before .before .before .before .before .before .before .before .before .pre .1 .1 .0, (c .before .before .before .before .before .before .before .before .before .pre .1 .1 .1 .0, (k .1, first-wants (count-type _ _ _) (wants-as refl (at-arrow _ (c .before .before .before .before .before .before .before .before .before .pre .1 .1 .1 .1 .0) (c .before .before .before .before .shape-at .ensures) _ _ (c .before .before .s3 .given .1)) (c .before .before .before .before .before .before .before .before .before .pre .1 .1 .1 .1 .1)))))))
 
--- src/lib.rt:62:13
 free-type-free-type-requires-2 : (t : ℕ) → free-type-lts.Need-free-type-requires-2 (shape-at-reads.Asked, shape-at-reads.Learnt, add-but-reads.Asked, add-but-reads.Learnt, free-types-below t, free-types.Post, free-type-below t, free-type.Post) (free-type-at t) free-type.Post
 free-type-free-type-requires-2 t c κs = let k = arrow-right (c .before .before .before .before .before .before .before .before .before .before .before .before .before .pre .1 .1 .1 .1 .0) (c .before .before .before .before .before .before .before .before .shape-at .ensures) (c .before .before .before .before .before .before .s3 .given .1) in let q = type-next (c .before .before .before .before .before .before .before .before .before .before .before .before .before .pre .1 .1 .0) (k .1) (c .before .before .before .free-type .ensures) (wants-as refl (at-arrow _ (c .before .before .before .before .before .before .before .before .before .before .before .before .before .pre .1 .1 .1 .1 .0) (c .before .before .before .before .before .before .before .before .shape-at .ensures) _ _ (c .before .before .before .before .before .before .s3 .given .1)) (c .before .before .before .before .before .before .before .before .before .before .before .before .before .pre .1 .1 .1 .1 .1)) (long (c .before .before .before .before .before .before .before .before .before .before .before .before .before .args .base .now) (c .before .before .before .free-type .last .1 .0) (c .before .before .before .before .before .before .before .before .before .before .before .before .before .args .work .now) (c .before .before .before .free-type .kept .1 .0)) in let m = q .more in let cl = c .before .before .before .before .before .before .before .before .before .before .before .before .before .pre .1 .0 in (omega arith, (omega arith, (q .vars, (q .out, (q .node, q .wants)))))
 
--- src/lib.rt:45:1
 free-type-same-length : (t : ℕ) → free-type-lts.Need-same-length (shape-at-reads.Asked, shape-at-reads.Learnt, add-but-reads.Asked, add-but-reads.Learnt, free-types-below t, free-types.Post, free-type-below t, free-type.Post) (free-type-at t) free-type.Post
 free-type-same-length t c = search needs
 
--- src/lib.rt:45:1
 free-type-returns : (t : ℕ) → free-type-lts.Need-returns (shape-at-reads.Asked, shape-at-reads.Learnt, add-but-reads.Asked, add-but-reads.Learnt, free-types-below t, free-types.Post, free-type-below t, free-type.Post) (free-type-at t) free-type.Post
 free-type-returns t c = collects-as refl (sym (at-var _ (c .before .before .before .before .before .before .before .before .before .before .before .before .pre .1 .1 .1 .1 .0) (c .before .before .before .before .before .before .before .shape-at .ensures) _ _ (c .before .before .before .before .before .s .given .1))) (c .before .before .add-but .ensures)
 
--- src/lib.rt:45:1
 free-type-same-length-2 : (t : ℕ) → free-type-lts.Need-same-length-2 (shape-at-reads.Asked, shape-at-reads.Learnt, add-but-reads.Asked, add-but-reads.Learnt, free-types-below t, free-types.Post, free-type-below t, free-type.Post) (free-type-at t) free-type.Post
 free-type-same-length-2 t c = search needs
 
--- src/lib.rt:45:1
 free-type-returns-2 : (t : ℕ) → free-type-lts.Need-returns-2 (shape-at-reads.Asked, shape-at-reads.Learnt, add-but-reads.Asked, add-but-reads.Learnt, free-types-below t, free-types.Post, free-type-below t, free-type.Post) (free-type-at t) free-type.Post
 free-type-returns-2 t c = collects-as refl (sym (at-con _ (c .before .before .before .before .before .before .before .before .before .before .before .before .pre .1 .1 .1 .1 .0) (c .before .before .before .before .before .before .before .shape-at .ensures) _ _ (c .before .before .before .before .before .s2 .given .1))) (c .before .before .free-types .ensures)
 
--- src/lib.rt:45:1
 free-type-same-length-3 : (t : ℕ) → free-type-lts.Need-same-length-3 (shape-at-reads.Asked, shape-at-reads.Learnt, add-but-reads.Asked, add-but-reads.Learnt, free-types-below t, free-types.Post, free-type-below t, free-type.Post) (free-type-at t) free-type.Post
 free-type-same-length-3 t c = search needs
 
--- src/lib.rt:45:1
 free-type-returns-3 : (t : ℕ) → free-type-lts.Need-returns-3 (shape-at-reads.Asked, shape-at-reads.Learnt, add-but-reads.Asked, add-but-reads.Learnt, free-types-below t, free-types.Post, free-type-below t, free-type.Post) (free-type-at t) free-type.Post
 free-type-returns-3 t c = collects-as refl (sym (at-arrow _ (c .before .before .before .before .before .before .before .before .before .before .before .before .before .before .before .before .pre .1 .1 .1 .1 .0) (c .before .before .before .before .before .before .before .before .before .before .before .shape-at .ensures) _ _ (c .before .before .before .before .before .before .before .before .before .s3 .given .1))) (type-then (c .before .before .before .before .before .before .before .before .before .before .before .before .before .before .before .before .pre .1 .1 .0) (arrow-right (c .before .before .before .before .before .before .before .before .before .before .before .before .before .before .before .before .pre .1 .1 .1 .1 .0) (c .before .before .before .before .before .before .before .before .before .before .before .shape-at .ensures) (c .before .before .before .before .before .before .before .before .before .s3 .given .1) .1) (c .before .before .before .before .before .before .free-type .ensures) (c .before .before .free-type2 .ensures))
 
--- src/lib.rt:79:9
 free-types-cell-at-requires : (t : ℕ) → free-types-lts.Need-cell-at-requires (cell-at-reads.Asked, cell-at-reads.Learnt, free-type-below t, free-type.Post, free-types-below t, free-types.Post) (free-types-at t) free-types.Post
 free-types-cell-at-requires t c κs = node-room (c .before .before .before .before .pre .1 .1 .1 .1 .0)
 
--- src/lib.rt:81:22
 free-types-enum-told : (t : ℕ) → free-types-lts.Need-enum-told (cell-at-reads.Asked, cell-at-reads.Learnt, free-type-below t, free-type.Post, free-types-below t, free-types.Post) (free-types-at t) free-types.Post
 free-types-enum-told t c = search needs
 
--- src/lib.rt:82:20
 free-types-enum-known-c : (t : ℕ) → free-types-lts.Need-enum-known-c (cell-at-reads.Asked, cell-at-reads.Learnt, free-type-below t, free-type.Post, free-types-below t, free-types.Post) (free-types-at t) free-types.Post
 free-types-enum-known-c t c = search needs
 
--- src/lib.rt:83:17
 free-types-free-type-requires : (t : ℕ) → free-types-lts.Need-free-type-requires (cell-at-reads.Asked, cell-at-reads.Learnt, free-type-below t, free-type.Post, free-types-below t, free-types.Post) (free-types-at t) free-types.Post
 free-types-free-type-requires t c κs = let k = cons-head (c .before .before .before .before .before .before .before .before .before .pre .1 .1 .1 .1 .0) (c .before .before .before .before .cell-at .ensures) (c .before .before .c .given .1) in (omega arith, (c .before .before .before .before .before .before .before .before .before .pre .1 .0, (c .before .before .before .before .before .before .before .before .before .pre .1 .1 .0, (c .before .before .before .before .before .before .before .before .before .pre .1 .1 .1 .0, (k .1, first-wants (count-types _ _ _) (wants-as refl (at-cons _ (c .before .before .before .before .before .before .before .before .before .pre .1 .1 .1 .1 .0) (c .before .before .before .before .cell-at .ensures) _ _ (c .before .before .c .given .1)) (c .before .before .before .before .before .before .before .before .before .pre .1 .1 .1 .1 .1)))))))
 
--- src/lib.rt:84:13
 free-types-free-types-requires : (t : ℕ) → free-types-lts.Need-free-types-requires (cell-at-reads.Asked, cell-at-reads.Learnt, free-type-below t, free-type.Post, free-types-below t, free-types.Post) (free-types-at t) free-types.Post
 free-types-free-types-requires t c κs = let k = cons-tail (c .before .before .before .before .before .before .before .before .before .before .before .before .before .pre .1 .1 .1 .1 .0) (c .before .before .before .before .before .before .before .before .cell-at .ensures) (c .before .before .before .before .before .before .c .given .1) in let q = types-next (c .before .before .before .before .before .before .before .before .before .before .before .before .before .pre .1 .1 .0) (k .1) (c .before .before .before .free-type .ensures) (wants-as refl (at-cons _ (c .before .before .before .before .before .before .before .before .before .before .before .before .before .pre .1 .1 .1 .1 .0) (c .before .before .before .before .before .before .before .before .cell-at .ensures) _ _ (c .before .before .before .before .before .before .c .given .1)) (c .before .before .before .before .before .before .before .before .before .before .before .before .before .pre .1 .1 .1 .1 .1)) (long (c .before .before .before .before .before .before .before .before .before .before .before .before .before .args .base .now) (c .before .before .before .free-type .last .1 .0) (c .before .before .before .before .before .before .before .before .before .before .before .before .before .args .work .now) (c .before .before .before .free-type .kept .1 .0)) in let m = q .more in let cl = c .before .before .before .before .before .before .before .before .before .before .before .before .before .pre .1 .0 in (omega arith, (omega arith, (q .vars, (q .out, (q .node, q .wants)))))
 
--- src/lib.rt:68:1
 free-types-same-length : (t : ℕ) → free-types-lts.Need-same-length (cell-at-reads.Asked, cell-at-reads.Learnt, free-type-below t, free-type.Post, free-types-below t, free-types.Post) (free-types-at t) free-types.Post
 free-types-same-length t c = search needs
 
--- src/lib.rt:68:1
 free-types-returns : (t : ℕ) → free-types-lts.Need-returns (cell-at-reads.Asked, cell-at-reads.Learnt, free-type-below t, free-type.Post, free-types-below t, free-types.Post) (free-types-at t) free-types.Post
 free-types-returns t c = collects-same (c .before .before .before .before .before .before .before .pre .1 .1 .1 .0) (sym (at-nil _ (c .before .before .before .before .before .before .before .pre .1 .1 .1 .1 .0) (c .before .before .cell-at .ensures) _ _ (c .enum-told .given .1)))
 
--- src/lib.rt:68:1
 free-types-same-length-2 : (t : ℕ) → free-types-lts.Need-same-length-2 (cell-at-reads.Asked, cell-at-reads.Learnt, free-type-below t, free-type.Post, free-types-below t, free-types.Post) (free-types-at t) free-types.Post
 free-types-same-length-2 t c = search needs
 
--- src/lib.rt:68:1
 free-types-returns-2 : (t : ℕ) → free-types-lts.Need-returns-2 (cell-at-reads.Asked, cell-at-reads.Learnt, free-type-below t, free-type.Post, free-types-below t, free-types.Post) (free-types-at t) free-types.Post
 free-types-returns-2 t c = collects-as refl (sym (at-cons _ (c .before .before .before .before .before .before .before .before .before .before .before .before .before .before .before .before .pre .1 .1 .1 .1 .0) (c .before .before .before .before .before .before .before .before .before .before .before .cell-at .ensures) _ _ (c .before .before .before .before .before .before .before .before .before .c .given .1))) (types-then (c .before .before .before .before .before .before .before .before .before .before .before .before .before .before .before .before .pre .1 .1 .0) (cons-tail (c .before .before .before .before .before .before .before .before .before .before .before .before .before .before .before .before .pre .1 .1 .1 .1 .0) (c .before .before .before .before .before .before .before .before .before .before .before .cell-at .ensures) (c .before .before .before .before .before .before .before .before .before .c .given .1) .1) (c .before .before .before .before .before .before .free-type .ensures) (c .before .before .free-types .ensures))
 

@@ -4,52 +4,37 @@ use Rattle.free.proofs.Ways.{big, var-passed, var-there, var-room, var-
 use borrow.Author.Needs.{needs}
 use Rattle.free.proofs.add_but.Statement.{statement}
 use Rattle.free.proofs.add_but.Tie as tie
-use Rattle.free.proofs.add_but.Reads as reads
-use Rattle.free.proofs.add_but.Lts as lts
-use Rattle.ast.proofs.push.Reads as push-reads
-use Rattle.vars.proofs.has_var.Reads as has-var-reads
 
--- src/lib.rt:34:8
 has-var-requires : tie.Need-has-var-requires
 has-var-requires c κs = (c .before .before .before .before .pre .1 .1 .1 .1 .names, c .before .before .before .before .pre .1 .0)
 
--- src/lib.rt:35:9
 same-length : tie.Need-same-length
 same-length c = search needs
 
--- src/lib.rt:35:9
 returns : tie.Need-returns
 returns c = var-passed (c .before .before .before .before .before .before .pre .1 .0) (c .before .before .before .before .before .before .pre .1 .1 .0) (c .before .before .before .before .before .before .pre .1 .1 .1 .0) (c .before .before .before .before .before .before .pre .1 .1 .1 .1) (c .before .has-var .ensures) (c .if1 .taken)
 
--- src/lib.rt:37:8
 has-var-requires-2 : tie.Need-has-var-requires-2
 has-var-requires-2 c κs = (c .before .before .before .before .before .before .before .pre .1 .1 .1 .1 .names, c .before .before .before .before .before .before .before .pre .1 .1 .0)
 
--- src/lib.rt:38:9
 same-length-2 : tie.Need-same-length-2
 same-length-2 c = search needs
 
--- src/lib.rt:38:9
 returns-2 : tie.Need-returns-2
 returns-2 c = var-there (c .before .before .before .before .before .before .before .before .before .pre .1 .0) (c .before .before .before .before .before .before .before .before .before .pre .1 .1 .0) (c .before .before .before .before .before .before .before .before .before .pre .1 .1 .1 .0) (c .before .before .before .before .before .before .before .before .before .pre .1 .1 .1 .1) (c .before .before .before .before .has-var .ensures) (c .before .before .before .if1 .left) (c .before .has-var2 .ensures) (c .if2 .taken)
 
--- src/lib.rt:40:5
 push-requires : tie.Need-push-requires
 push-requires c κs = (c .before .before .before .before .before .before .before .before .before .before .pre .0, var-room (c .before .before .before .before .before .before .before .before .before .before .pre .1 .0) (c .before .before .before .before .before .before .before .before .before .before .pre .1 .1 .0) (c .before .before .before .before .before .before .before .before .before .before .pre .1 .1 .1 .0) (c .before .before .before .before .before .before .before .before .before .before .pre .1 .1 .1 .1) (c .before .before .before .before .before .has-var .ensures) (c .before .before .before .before .if1 .left) (c .before .before .has-var2 .ensures) (c .before .if2 .left) (big (c .before .before .before .before .before .before .before .before .before .before .args .base .now) (c .before .before .before .before .before .before .before .before .before .before .args .work .now) (c .before .before .before .before .before .before .before .before .before .before .good .0 .0) (c .before .before .before .before .before .before .before .before .before .before .good .1 .0 .0)) .0)
 
--- src/lib.rt:41:18
 add-t17 : tie.Need-add-t17
 add-t17 c = let q = var-room (c .before .before .before .before .before .before .before .before .before .before .before .before .before .pre .1 .0) (c .before .before .before .before .before .before .before .before .before .before .before .before .before .pre .1 .1 .0) (c .before .before .before .before .before .before .before .before .before .before .before .before .before .pre .1 .1 .1 .0) (c .before .before .before .before .before .before .before .before .before .before .before .before .before .pre .1 .1 .1 .1) (c .before .before .before .before .before .before .before .before .has-var .ensures) (c .before .before .before .before .before .before .before .if1 .left) (c .before .before .before .before .before .has-var2 .ensures) (c .before .before .before .before .if2 .left) (big (c .before .before .before .before .before .before .before .before .before .before .before .before .before .args .base .now) (c .before .before .before .before .before .before .before .before .before .before .before .before .before .args .work .now) (c .before .before .before .before .before .before .before .before .before .before .before .before .before .good .0 .0) (c .before .before .before .before .before .before .before .before .before .before .before .before .before .good .1 .0 .0)) .1 in omega arith
 
--- src/lib.rt:41:42
 add-t18 : tie.Need-add-t18
 add-t18 c = let q = var-room (c .before .before .before .before .before .before .before .before .before .before .before .before .before .pre .1 .0) (c .before .before .before .before .before .before .before .before .before .before .before .before .before .pre .1 .1 .0) (c .before .before .before .before .before .before .before .before .before .before .before .before .before .pre .1 .1 .1 .0) (c .before .before .before .before .before .before .before .before .before .before .before .before .before .pre .1 .1 .1 .1) (c .before .before .before .before .before .before .before .before .has-var .ensures) (c .before .before .before .before .before .before .before .if1 .left) (c .before .before .before .before .before .has-var2 .ensures) (c .before .before .before .before .if2 .left) (big (c .before .before .before .before .before .before .before .before .before .before .before .before .before .args .base .now) (c .before .before .before .before .before .before .before .before .before .before .before .before .before .args .work .now) (c .before .before .before .before .before .before .before .before .before .before .before .before .before .good .0 .0) (c .before .before .before .before .before .before .before .before .before .before .before .before .before .good .1 .0 .0)) .1 in omega arith
 
--- src/lib.rt:23:1
 same-length-3 : tie.Need-same-length-3
 same-length-3 c = search needs
 
--- src/lib.rt:23:1
 returns-3 : tie.Need-returns-3
 returns-3 c = var-new (c .before .before .before .before .before .before .before .before .before .before .before .before .before .pre .1 .0) (c .before .before .before .before .before .before .before .before .before .before .before .before .before .pre .1 .1 .0) (c .before .before .before .before .before .before .before .before .before .before .before .before .before .pre .1 .1 .1 .0) (c .before .before .before .before .before .before .before .before .before .before .before .before .before .pre .1 .1 .1 .1) (c .before .before .before .before .before .before .before .before .has-var .ensures) (c .before .before .before .before .before .before .before .if1 .left) (c .before .before .before .before .before .has-var2 .ensures) (c .before .before .before .before .if2 .left) (big (c .before .before .before .before .before .before .before .before .before .before .before .before .before .args .base .now) (c .before .before .before .before .before .before .before .before .before .before .before .before .before .args .work .now) (c .before .before .before .before .before .before .before .before .before .before .before .before .before .good .0 .0) (c .before .before .before .before .before .before .before .before .before .before .before .before .before .good .1 .0 .0)) (c .before .before .push .ensures)
 

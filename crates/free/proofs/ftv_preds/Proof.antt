@@ -7,19 +7,13 @@ use Rattle.free.proofs.Ways.{wants-as, collects-as}
 use borrow.Author.Needs.{needs}
 use Rattle.free.proofs.ftv_preds.Statement.{statement}
 use Rattle.free.proofs.ftv_preds.Tie as tie
-use Rattle.free.proofs.ftv_preds.Reads as reads
-use Rattle.free.proofs.ftv_preds.Lts as lts
-use Rattle.free.proofs.free_types.Reads as free-types-reads
 
--- src/lib.rt:114:5
 free-types-requires : tie.Need-free-types-requires
 free-types-requires c κs = (c .before .before .before .before .pre .0, (low-node (c .before .before .before .before .pre .1 .0 .table) (omega arith), (c .before .before .before .before .pre .1 .0, (c .before .before .before .before .pre .1 .1 .0, wants-as refl (sym (whole-preds _ _ _ (c .before .before .before .before .pre .1 .1 .0))) (c .before .before .before .before .pre .1 .1 .1)))))
 
--- src/lib.rt:104:1
 same-length : tie.Need-same-length
 same-length c = search needs
 
--- src/lib.rt:104:1
 returns : tie.Need-returns
 returns c = collects-as refl (whole-preds _ _ _ (c .before .before .before .before .before .before .before .pre .1 .1 .0)) (c .before .before .free-types .ensures)
 

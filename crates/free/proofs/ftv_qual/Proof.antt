@@ -7,19 +7,13 @@ use Rattle.free.proofs.Ways.{wants-as, collects-as}
 use borrow.Author.Needs.{needs}
 use Rattle.free.proofs.ftv_qual.Statement.{statement}
 use Rattle.free.proofs.ftv_qual.Tie as tie
-use Rattle.free.proofs.ftv_qual.Reads as reads
-use Rattle.free.proofs.ftv_qual.Lts as lts
-use Rattle.free.proofs.ftv_scheme.Reads as ftv-scheme-reads
 
--- src/lib.rt:140:5
 ftv-scheme-requires : tie.Need-ftv-scheme-requires
 ftv-scheme-requires c κs = (c .before .before .before .before .pre .0, (low-node (c .before .before .before .before .pre .1 .0 .table) (omega arith), (c .before .before .before .before .pre .1 .0, (c .before .before .before .before .pre .1 .1 .0, wants-as refl (sym (qual-is _ _ _ _)) (c .before .before .before .before .pre .1 .1 .1)))))
 
--- src/lib.rt:132:1
 same-length : tie.Need-same-length
 same-length c = search needs
 
--- src/lib.rt:132:1
 returns : tie.Need-returns
 returns c = collects-as refl (qual-is _ _ _ _) (c .before .before .ftv-scheme .ensures)
 

@@ -9,24 +9,16 @@ use Rattle.free.proofs.Ways.{wants-as, collects-as, first-wants, types-
 use borrow.Author.Needs.{needs}
 use Rattle.free.proofs.ftv_scheme.Statement.{statement}
 use Rattle.free.proofs.ftv_scheme.Tie as tie
-use Rattle.free.proofs.ftv_scheme.Reads as reads
-use Rattle.free.proofs.ftv_scheme.Lts as lts
-use Rattle.free.proofs.free_type.Reads as free-type-reads
-use Rattle.free.proofs.free_types.Reads as free-types-reads
 
--- src/lib.rt:127:9
 free-type-requires : tie.Need-free-type-requires
 free-type-requires c κs = (c .before .before .before .before .pre .0, (c .before .before .before .before .pre .1 .0, (low-node (c .before .before .before .before .pre .1 .0 .table) (omega arith), (c .before .before .before .before .pre .1 .1 .1 .0, first-wants (count-types _ _ _) (wants-as (sym (from-none _ _)) (scheme-is _ (c .before .before .before .before .pre .1 .1 .0) _ _) (c .before .before .before .before .pre .1 .1 .1 .1))))))
 
--- src/lib.rt:128:5
 free-types-requires : tie.Need-free-types-requires
 free-types-requires c κs = let q = types-next (c .before .before .before .before .before .before .before .before .pre .1 .0) (c .before .before .before .before .before .before .before .before .pre .1 .1 .0) (c .before .before .before .free-type .ensures) (wants-as (sym (from-none _ _)) (scheme-is _ (c .before .before .before .before .before .before .before .before .pre .1 .1 .0) _ _) (c .before .before .before .before .before .before .before .before .pre .1 .1 .1 .1)) (long (c .before .before .before .before .before .before .before .before .args .base .now) (c .before .before .before .free-type .last .1 .0) (c .before .before .before .before .before .before .before .before .args .work .now) (c .before .before .before .free-type .kept .1 .0)) in let m = q .more in let cl = c .before .before .before .before .before .before .before .before .pre .0 in (omega arith, (q .vars, (q .out, (q .node, q .wants))))
 
--- src/lib.rt:118:1
 same-length : tie.Need-same-length
 same-length c = search needs
 
--- src/lib.rt:118:1
 returns : tie.Need-returns
 returns c = collects-as (from-none _ _) (sym (scheme-is _ (c .before .before .before .before .before .before .before .before .before .before .before .pre .1 .1 .0) _ _)) (types-then (c .before .before .before .before .before .before .before .before .before .before .before .pre .1 .0) (c .before .before .before .before .before .before .before .before .before .before .before .pre .1 .1 .0) (c .before .before .before .before .before .before .free-type .ensures) (c .before .before .free-types .ensures))
 

@@ -7,19 +7,13 @@ use Rattle.free.proofs.Ways.{wants-as, collects-as}
 use borrow.Author.Needs.{needs}
 use Rattle.free.proofs.ftv_type.Statement.{statement}
 use Rattle.free.proofs.ftv_type.Tie as tie
-use Rattle.free.proofs.ftv_type.Reads as reads
-use Rattle.free.proofs.ftv_type.Lts as lts
-use Rattle.free.proofs.free_type.Reads as free-type-reads
 
--- src/lib.rt:100:5
 free-type-requires : tie.Need-free-type-requires
 free-type-requires c κs = (c .before .before .before .before .pre .0, (low-node (c .before .before .before .before .pre .1 .0 .table) (omega arith), (c .before .before .before .before .pre .1 .0, (c .before .before .before .before .pre .1 .1 .0, wants-as refl (sym (whole-type _ _ _ _)) (c .before .before .before .before .pre .1 .1 .1)))))
 
--- src/lib.rt:90:1
 same-length : tie.Need-same-length
 same-length c = search needs
 
--- src/lib.rt:90:1
 returns : tie.Need-returns
 returns c = collects-as refl (whole-type _ _ _ _) (c .before .before .free-type .ensures)
 

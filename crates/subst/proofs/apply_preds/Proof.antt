@@ -4,19 +4,13 @@ use Rattle.subst.proofs.Wholes.{whole-preds}
 use borrow.Author.Needs.{needs}
 use Rattle.subst.proofs.apply_preds.Statement.{statement}
 use Rattle.subst.proofs.apply_preds.Tie as tie
-use Rattle.subst.proofs.apply_preds.Reads as reads
-use Rattle.subst.proofs.apply_preds.Lts as lts
-use Rattle.subst.proofs.apply_preds_but.Reads as apply-preds-but-reads
 
--- src/lib.rt:206:5
 apply-preds-but-requires : tie.Need-apply-preds-but-requires
 apply-preds-but-requires c κs = (c .before .before .before .before .pre .0, ready-all (c .before .before .before .before .pre .1))
 
--- src/lib.rt:190:1
 same-length : tie.Need-same-length
 same-length c = search needs
 
--- src/lib.rt:190:1
 returns : tie.Need-returns
 returns c = whole-preds (c .before .before .before .before .before .before .before .pre .1) _ (c .before .before .apply-preds-but .ensures)
 

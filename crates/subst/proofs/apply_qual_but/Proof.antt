@@ -5,56 +5,40 @@ use Rattle.subst.proofs.QualWays.{preds-first, preds-refused, type-next
 use borrow.Author.Needs.{needs}
 use Rattle.subst.proofs.apply_qual_but.Statement.{statement}
 use Rattle.subst.proofs.apply_qual_but.Tie as tie
-use Rattle.subst.proofs.apply_qual_but.Reads as reads
-use Rattle.subst.proofs.apply_qual_but.Lts as lts
-use Rattle.apply.proofs.apply_but.Reads as apply-but-reads
-use Rattle.subst.proofs.apply_preds_but.Reads as apply-preds-but-reads
 
--- src/lib.rt:155:9
 apply-preds-but-requires : tie.Need-apply-preds-but-requires
 apply-preds-but-requires c κs = (c .before .before .before .before .pre .0, preds-first (c .before .before .before .before .pre .1))
 
--- src/lib.rt:157:23
 enum-known-r : tie.Need-enum-known-r
 enum-known-r c = search needs
 
--- src/lib.rt:158:17
 apply-but-requires : tie.Need-apply-but-requires
 apply-but-requires c κs = let q = type-next (c .before .before .before .before .before .before .before .before .before .before .before .pre .1) (c .before .before .before .before .before .before .apply-preds-but .ensures) (c .before .before .r .given .1) (long (c .before .before .before .before .before .before .before .before .before .before .before .args .base .now) (c .before .before .before .before .before .before .apply-preds-but .last .1 .0) (c .before .before .before .before .before .before .before .before .before .before .before .args .work .now) (c .before .before .before .before .before .before .apply-preds-but .kept .1 .0)) in let m = q .0 in let cl = c .before .before .before .before .before .before .before .before .before .before .before .pre .0 in (omega arith, q .1)
 
--- src/lib.rt:160:31
 enum-known-q : tie.Need-enum-known-q
 enum-known-q c = search needs
 
--- src/lib.rt:161:34
 enum-known-q-2 : tie.Need-enum-known-q-2
 enum-known-q-2 c = search needs
 
--- src/lib.rt:164:26
 enum-known-r-2 : tie.Need-enum-known-r-2
 enum-known-r-2 c = search needs
 
--- src/lib.rt:138:1
 same-length : tie.Need-same-length
 same-length c = search needs
 
--- src/lib.rt:138:1
 returns : tie.Need-returns
 returns c = both-done (c .before .before .before .before .before .before .before .before .before .before .before .before .before .before .before .before .before .pre .1) (c .before .before .before .before .before .before .before .before .before .before .before .before .apply-preds-but .ensures) (c .before .before .before .before .before .before .before .before .r .given .1) (c .before .before .before .before .before .apply-but .ensures) (c .before .q .given .1)
 
--- src/lib.rt:138:1
 same-length-2 : tie.Need-same-length-2
 same-length-2 c = search needs
 
--- src/lib.rt:138:1
 returns-2 : tie.Need-returns-2
 returns-2 c = type-refused (c .before .before .before .before .before .before .before .before .before .before .before .before .before .before .before .before .before .pre .1) (c .before .before .before .before .before .before .before .before .before .before .before .before .apply-preds-but .ensures) (c .before .before .before .before .before .before .before .before .r .given .1) (c .before .before .before .before .before .apply-but .ensures) (c .before .q2 .given .1)
 
--- src/lib.rt:138:1
 same-length-3 : tie.Need-same-length-3
 same-length-3 c = search needs
 
--- src/lib.rt:138:1
 returns-3 : tie.Need-returns-3
 returns-3 c = preds-refused (c .before .before .before .before .before .before .before .before .before .before .pre .1) (c .before .before .before .before .before .apply-preds-but .ensures) (c .before .r2 .given .1)
 

@@ -1,6 +1,5 @@
 -- First the type, then the predicates.
 use Rattle.subst.proofs.SchemeWays.{closed-preds, not-closed}
-use borrow.Author.Needs.{needs}
 use Rattle.subst.proofs.is_closed.Statement.{statement}
 use Rattle.subst.proofs.is_closed.Tie as tie
 

@@ -47,83 +47,63 @@ all-bound-list-below t =
     (falls 3 all-bound-list-kinds.ps _<_ μ-all-bound-list t)
     all-bound-list.Pre
 
--- src/lib.rt:42:9
 all-bound-shape-at-requires : (t : ℕ) → all-bound-lts.Need-shape-at-requires (shape-at-reads.Asked, shape-at-reads.Learnt, has-var-reads.Asked, has-var-reads.Learnt, all-bound-list-below t, all-bound-list.Post, all-bound-below t, all-bound.Post) (all-bound-at t) all-bound.Post
 all-bound-shape-at-requires t c κs = node-room (c .before .before .before .pre .1 .1 .1)
 
--- src/lib.rt:44:20
 all-bound-enum-known-s : (t : ℕ) → all-bound-lts.Need-enum-known-s (shape-at-reads.Asked, shape-at-reads.Learnt, has-var-reads.Asked, has-var-reads.Learnt, all-bound-list-below t, all-bound-list.Post, all-bound-below t, all-bound.Post) (all-bound-at t) all-bound.Post
 all-bound-enum-known-s t c = search needs
 
--- src/lib.rt:44:26
 all-bound-has-var-requires : (t : ℕ) → all-bound-lts.Need-has-var-requires (shape-at-reads.Asked, shape-at-reads.Learnt, has-var-reads.Asked, has-var-reads.Learnt, all-bound-list-below t, all-bound-list.Post, all-bound-below t, all-bound.Post) (all-bound-at t) all-bound.Post
 all-bound-has-var-requires t c κs = (c .before .before .before .before .before .before .before .pre .1 .0, c .before .before .before .before .before .before .before .pre .1 .1 .0)
 
--- src/lib.rt:45:23
 all-bound-enum-known-s-2 : (t : ℕ) → all-bound-lts.Need-enum-known-s-2 (shape-at-reads.Asked, shape-at-reads.Learnt, has-var-reads.Asked, has-var-reads.Learnt, all-bound-list-below t, all-bound-list.Post, all-bound-below t, all-bound.Post) (all-bound-at t) all-bound.Post
 all-bound-enum-known-s-2 t c = search needs
 
--- src/lib.rt:45:29
 all-bound-all-bound-list-requires : (t : ℕ) → all-bound-lts.Need-all-bound-list-requires (shape-at-reads.Asked, shape-at-reads.Learnt, has-var-reads.Asked, has-var-reads.Learnt, all-bound-list-below t, all-bound-list.Post, all-bound-below t, all-bound.Post) (all-bound-at t) all-bound.Post
 all-bound-all-bound-list-requires t c κs = let k = con-child (c .before .before .before .before .before .before .before .pre .1 .1 .1) (c .before .before .before .shape-at .ensures) (c .before .s2 .given .1) in (omega arith, (c .before .before .before .before .before .before .before .pre .1 .0, (c .before .before .before .before .before .before .before .pre .1 .1 .0, k .1)))
 
--- src/lib.rt:46:22
 all-bound-enum-known-s-3 : (t : ℕ) → all-bound-lts.Need-enum-known-s-3 (shape-at-reads.Asked, shape-at-reads.Learnt, has-var-reads.Asked, has-var-reads.Learnt, all-bound-list-below t, all-bound-list.Post, all-bound-below t, all-bound.Post) (all-bound-at t) all-bound.Post
 all-bound-enum-known-s-3 t c = search needs
 
--- src/lib.rt:47:16
 all-bound-all-bound-requires : (t : ℕ) → all-bound-lts.Need-all-bound-requires (shape-at-reads.Asked, shape-at-reads.Learnt, has-var-reads.Asked, has-var-reads.Learnt, all-bound-list-below t, all-bound-list.Post, all-bound-below t, all-bound.Post) (all-bound-at t) all-bound.Post
 all-bound-all-bound-requires t c κs = let k = arrow-left (c .before .before .before .before .before .before .before .pre .1 .1 .1) (c .before .before .before .shape-at .ensures) (c .before .s3 .given .1) in (omega arith, (c .before .before .before .before .before .before .before .pre .1 .0, (c .before .before .before .before .before .before .before .pre .1 .1 .0, k .1)))
 
--- src/lib.rt:48:17
 all-bound-all-bound-requires-2 : (t : ℕ) → all-bound-lts.Need-all-bound-requires-2 (shape-at-reads.Asked, shape-at-reads.Learnt, has-var-reads.Asked, has-var-reads.Learnt, all-bound-list-below t, all-bound-list.Post, all-bound-below t, all-bound.Post) (all-bound-at t) all-bound.Post
 all-bound-all-bound-requires-2 t c κs = let k = arrow-right (c .before .before .before .before .before .before .before .before .before .pre .1 .1 .1) (c .before .before .before .before .before .shape-at .ensures) (c .before .before .before .s3 .given .1) in (omega arith, (c .before .before .before .before .before .before .before .before .before .pre .1 .0, (c .before .before .before .before .before .before .before .before .before .pre .1 .1 .0, k .1)))
 
--- src/lib.rt:48:17
 all-bound-returns : (t : ℕ) → all-bound-lts.Need-returns (shape-at-reads.Asked, shape-at-reads.Learnt, has-var-reads.Asked, has-var-reads.Learnt, all-bound-list-below t, all-bound-list.Post, all-bound-below t, all-bound.Post) (all-bound-at t) all-bound.Post
 all-bound-returns t c = bound-right _ (c .before .before .before .before .before .before .before .before .before .before .pre .1 .1 .1) (c .before .before .before .before .before .before .shape-at .ensures) _ (c .before .before .before .before .s3 .given .1) (c .before .before .all-bound .ensures) (c .before .if1 .taken) (c .all-bound2 .ensures)
 
--- src/lib.rt:36:1
 all-bound-returns-2 : (t : ℕ) → all-bound-lts.Need-returns-2 (shape-at-reads.Asked, shape-at-reads.Learnt, has-var-reads.Asked, has-var-reads.Learnt, all-bound-list-below t, all-bound-list.Post, all-bound-below t, all-bound.Post) (all-bound-at t) all-bound.Post
 all-bound-returns-2 t c = bound-var _ (c .before .before .before .before .before .before .before .before .pre .1 .1 .1) (c .before .before .before .before .shape-at .ensures) _ (c .before .before .s .given .1) (c .has-var .ensures)
 
--- src/lib.rt:36:1
 all-bound-returns-3 : (t : ℕ) → all-bound-lts.Need-returns-3 (shape-at-reads.Asked, shape-at-reads.Learnt, has-var-reads.Asked, has-var-reads.Learnt, all-bound-list-below t, all-bound-list.Post, all-bound-below t, all-bound.Post) (all-bound-at t) all-bound.Post
 all-bound-returns-3 t c = bound-con _ (c .before .before .before .before .before .before .before .before .pre .1 .1 .1) (c .before .before .before .before .shape-at .ensures) _ (c .before .before .s2 .given .1) (c .all-bound-list .ensures)
 
--- src/lib.rt:36:1
 all-bound-returns-4 : (t : ℕ) → all-bound-lts.Need-returns-4 (shape-at-reads.Asked, shape-at-reads.Learnt, has-var-reads.Asked, has-var-reads.Learnt, all-bound-list-below t, all-bound-list.Post, all-bound-below t, all-bound.Post) (all-bound-at t) all-bound.Post
 all-bound-returns-4 t c = unbound-left _ (c .before .before .before .before .before .before .before .before .before .pre .1 .1 .1) (c .before .before .before .before .before .shape-at .ensures) _ (c .before .before .before .s3 .given .1) (c .before .all-bound .ensures) (c .if1 .left)
 
--- src/lib.rt:62:9
 all-bound-list-cell-at-requires : (t : ℕ) → all-bound-list-lts.Need-cell-at-requires (cell-at-reads.Asked, cell-at-reads.Learnt, all-bound-below t, all-bound.Post, all-bound-list-below t, all-bound-list.Post) (all-bound-list-at t) all-bound-list.Post
 all-bound-list-cell-at-requires t c κs = node-room (c .before .before .before .pre .1 .1 .1)
 
--- src/lib.rt:64:22
 all-bound-list-enum-told : (t : ℕ) → all-bound-list-lts.Need-enum-told (cell-at-reads.Asked, cell-at-reads.Learnt, all-bound-below t, all-bound.Post, all-bound-list-below t, all-bound-list.Post) (all-bound-list-at t) all-bound-list.Post
 all-bound-list-enum-told t c = search needs
 
--- src/lib.rt:65:20
 all-bound-list-enum-known-c : (t : ℕ) → all-bound-list-lts.Need-enum-known-c (cell-at-reads.Asked, cell-at-reads.Learnt, all-bound-below t, all-bound.Post, all-bound-list-below t, all-bound-list.Post) (all-bound-list-at t) all-bound-list.Post
 all-bound-list-enum-known-c t c = search needs
 
--- src/lib.rt:66:16
 all-bound-list-all-bound-requires : (t : ℕ) → all-bound-list-lts.Need-all-bound-requires (cell-at-reads.Asked, cell-at-reads.Learnt, all-bound-below t, all-bound.Post, all-bound-list-below t, all-bound-list.Post) (all-bound-list-at t) all-bound-list.Post
 all-bound-list-all-bound-requires t c κs = let k = cons-head (c .before .before .before .before .before .before .before .pre .1 .1 .1) (c .before .before .before .cell-at .ensures) (c .before .c .given .1) in (omega arith, (c .before .before .before .before .before .before .before .pre .1 .0, (c .before .before .before .before .before .before .before .pre .1 .1 .0, k .1)))
 
--- src/lib.rt:67:17
 all-bound-list-all-bound-list-requires : (t : ℕ) → all-bound-list-lts.Need-all-bound-list-requires (cell-at-reads.Asked, cell-at-reads.Learnt, all-bound-below t, all-bound.Post, all-bound-list-below t, all-bound-list.Post) (all-bound-list-at t) all-bound-list.Post
 all-bound-list-all-bound-list-requires t c κs = let k = cons-tail (c .before .before .before .before .before .before .before .before .before .pre .1 .1 .1) (c .before .before .before .before .before .cell-at .ensures) (c .before .before .before .c .given .1) in (omega arith, (c .before .before .before .before .before .before .before .before .before .pre .1 .0, (c .before .before .before .before .before .before .before .before .before .pre .1 .1 .0, k .1)))
 
--- src/lib.rt:67:17
 all-bound-list-returns : (t : ℕ) → all-bound-list-lts.Need-returns (cell-at-reads.Asked, cell-at-reads.Learnt, all-bound-below t, all-bound.Post, all-bound-list-below t, all-bound-list.Post) (all-bound-list-at t) all-bound-list.Post
 all-bound-list-returns t c = bound-rest _ (c .before .before .before .before .before .before .before .before .before .before .pre .1 .1 .1) (c .before .before .before .before .before .before .cell-at .ensures) _ (c .before .before .before .before .c .given .1) (c .before .before .all-bound .ensures) (c .before .if1 .taken) (c .all-bound-list .ensures)
 
--- src/lib.rt:56:1
 all-bound-list-returns-2 : (t : ℕ) → all-bound-list-lts.Need-returns-2 (cell-at-reads.Asked, cell-at-reads.Learnt, all-bound-below t, all-bound.Post, all-bound-list-below t, all-bound-list.Post) (all-bound-list-at t) all-bound-list.Post
 all-bound-list-returns-2 t c = bound-nil _ (c .before .before .before .before .before .before .pre .1 .1 .1) (c .before .before .cell-at .ensures) _ (c .enum-told .given .1)
 
--- src/lib.rt:56:1
 all-bound-list-returns-3 : (t : ℕ) → all-bound-list-lts.Need-returns-3 (cell-at-reads.Asked, cell-at-reads.Learnt, all-bound-below t, all-bound.Post, all-bound-list-below t, all-bound-list.Post) (all-bound-list-at t) all-bound-list.Post
 all-bound-list-returns-3 t c = unbound-head _ (c .before .before .before .before .before .before .before .before .before .pre .1 .1 .1) (c .before .before .before .before .before .cell-at .ensures) _ (c .before .before .before .c .given .1) (c .before .all-bound .ensures) (c .if1 .left)
 
