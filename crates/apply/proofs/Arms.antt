@@ -40,10 +40,6 @@ apply-step zero l s a p q = absurd (p refl)
 apply-step (suc d) zero s a p q = absurd (q refl)
 apply-step (suc d) (suc l) s a p q = simp sub-one
 
--- A variable is the word of its type.
-pub var-node : {w : List ℕ} {top t x : ℕ} {r : Shape} → Node w top t → r ≡ shapeOf w t → r ≡ Var x → Node w top x
-var-node N e k = rw (var-is N e k) N
-
 -- What `apply` does at a type: r is what `shape_at` returned.
 module _ {w : List ℕ} {top left t : ℕ} (ns : List ℕ) (N : Node w top t) (S : Subst) {depth : ℕ} (dp : depth ≡ 0 → ⊥) (lp : left ≡ 0 → ⊥)
     {r : Shape} (e : r ≡ shapeOf w t) where

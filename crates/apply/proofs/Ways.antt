@@ -1,6 +1,6 @@
 -- The ways out of `apply_but` and `args_but` that call, from what the calls gave.
 use mathlib.Core.Path.{_≡_, refl, sym, _∙_}
-use mathlib.Core.List.{List, _++_}
+use mathlib.Core.List.{List}
 use Prim.Native.Nat.{ℕ, _+_, _*_, _-_, _^_, _<_, _≤_}
 use native.Mathlib.Omega.{arith}
 use lib.ListN.{length}
@@ -11,7 +11,6 @@ use Rattle.ast.specs.declared.Shape.{Shape}
 use Rattle.ast.specs.declared.Shape.the-variants.{Con, Arrow}
 use Rattle.ast.specs.declared.Cell.{Cell}
 use Rattle.ast.specs.declared.Cell.the-variants.{Cons}
-use Rattle.ast.proofs.Join.{joined}
 use Rattle.ast.proofs.Ranges.{cons-node}
 use Rattle.ast.proofs.Laws.{arrow-right, cons-tail, node-more}
 use Rattle.ast.proofs.NewNode.{push-con, push-arrow, push-cons}
@@ -22,10 +21,6 @@ use Rattle.apply.specs.declared.Applied.{Applied}
 use Rattle.apply.specs.declared.Applied.the-variants.{Done, Refused}
 use Rattle.apply.proofs.Hand.{within, gives, gave, fails, goes, adds, same-then}
 use Rattle.apply.proofs.Arms.{at-con, at-arrow, at-cons, but-then, apply-kept, each-kept, arrow-kept, cons-kept}
-
--- Two slices have no more words than this.
-pub both-fit : (a b : List ℕ) → length a < 2 ^ 64 → length b < 2 ^ 64 → length (a ++ b) < 2 ^ 65
-both-fit a b h k = let j = joined a b in omega arith
 
 -- There is room for node top₁, and a word can name it.
 pub record Room (w₁ : List ℕ) (top top₁ : ℕ) : Type 0 where

@@ -11,7 +11,7 @@ use Rattle.ast.specs.declared.Shape.{Shape}
 use Rattle.ast.specs.declared.Shape.the-variants.{Var, Con, Arrow}
 use Rattle.ast.specs.declared.Cell.{Cell}
 use Rattle.ast.specs.declared.Cell.the-variants.{Nil, Cons}
-use Rattle.ast.proofs.Laws.{var-is, tree-var, tree-con, tree-arrow, list-nil, list-cons}
+use Rattle.ast.proofs.Laws.{tree-var, tree-con, tree-arrow, list-nil, list-cons}
 use Rattle.vars.specs.Vars.{varsOf}
 use Rattle.vars.proofs.VarLaws.{low-vars}
 use Rattle.subst.specs.Preds.{predsOf}
@@ -21,10 +21,6 @@ use Rattle.free.specs.Free.{add-but, free-type, free-types}
 use Rattle.free.proofs.Plain.{none-type, none-types, without-none, without-both}
 
 -- ## At a type: r is what `shape_at` returned
-
--- A variable is the word of its type.
-pub var-node : {w : List ℕ} {top t x : ℕ} {r : Shape} → Node w top t → r ≡ shapeOf w t → r ≡ Var x → Node w top x
-var-node N e k = rw (var-is N e k) N
 
 module _ {w : List ℕ} {top t : ℕ} (ns : List ℕ) (N : Node w top t) {r : Shape} (e : r ≡ shapeOf w t) (vs out : List TyVar) where
   -- A variable.

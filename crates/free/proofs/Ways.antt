@@ -1,7 +1,7 @@
 -- What the functions that collect ask and give: one variable, and one call after another.
 use mathlib.Core.Path.{_≡_, ap, sym, _∙_}
 use mathlib.Core.Bool.{Bool, true, false}
-use mathlib.Core.List.{List, _∷_, _++_}
+use mathlib.Core.List.{List, _∷_}
 use Prim.Native.Nat.{ℕ, suc, _+_, _*_, _^_, _<_, _≤_}
 use native.Mathlib.Omega.{arith}
 use lib.ListN.{length}
@@ -12,15 +12,10 @@ use Rattle.meaning.specs.Subst.{add}
 use Rattle.names.specs.Names.{first-node, tyvarOf}
 use Rattle.ast.specs.Table.{tree, list, Node, pushed}
 use Rattle.ast.proofs.Laws.{node-more, kept-tree, kept-list}
-use Rattle.ast.proofs.Join.{joined}
 use Rattle.vars.specs.Vars.{varsOf}
 use Rattle.vars.proofs.VarLaws.{kept-vars, push-vars}
 use Rattle.pairs.proofs.Frames.{stands-refl, stands-then, stands-up, pushed-stands}
 use Rattle.free.specs.Free.{add-but, free-type, free-types, Wants, Collects}
-
--- Two slices have no more words than this.
-pub big : (a b : List ℕ) → length a < 2 ^ 64 → length b < 2 ^ 64 → length (a ++ b) < 2 ^ 65
-big a b h k = let j = joined a b in omega arith
 
 -- ## One variable
 

@@ -2,12 +2,13 @@
 use borrow.Author.Needs.{needs}
 use mathlib.Core.Path.{_∙_}
 use native.Mathlib.Omega.{arith}
-use Rattle.ast.proofs.Laws.{con-child, arrow-left, arrow-right, cons-head, cons-tail, node-room}
+use Rattle.ast.proofs.Join.{both-fit}
+use Rattle.ast.proofs.Laws.{var-node, con-child, arrow-left, arrow-right, cons-head, cons-tail, node-room}
 use Rattle.pairs.proofs.Frames.{long}
 use Rattle.apply.proofs.Hand.{gives, stays, refuses}
 use Rattle.apply.proofs.Buts.{look-at, look-nothing, found-node}
-use Rattle.apply.proofs.Arms.{no-depth, no-steps, at-var, at-free, var-node, at-nullary, at-nil, but-first}
-use Rattle.apply.proofs.Ways.{both-fit, con-refused, con-room, con-done, arrow-refused, arrow-next, arrow-refused-2, arrow-room, arrow-done, cons-refused, cons-next, cons-refused-2, cons-room, cons-done}
+use Rattle.apply.proofs.Arms.{no-depth, no-steps, at-var, at-free, at-nullary, at-nil, but-first}
+use Rattle.apply.proofs.Ways.{con-refused, con-room, con-done, arrow-refused, arrow-next, arrow-refused-2, arrow-room, arrow-done, cons-refused, cons-next, cons-refused-2, cons-room, cons-done}
 use Prim.Native.Nat.{ℕ, _<_}
 use borrow.Fn.Kinds.{In}
 use borrow.Fn.PlainCycle.{Measures, is, falls, and}

@@ -2,10 +2,10 @@
 use borrow.Author.Needs.{needs}
 use mathlib.Core.Path.{refl, sym}
 use native.Mathlib.Omega.{arith}
-use Rattle.ast.proofs.Laws.{con-child, arrow-left, arrow-right, cons-head, cons-tail, node-room}
+use Rattle.ast.proofs.Laws.{var-node, con-child, arrow-left, arrow-right, cons-head, cons-tail, node-room}
 use Rattle.pairs.proofs.Frames.{long}
 use Rattle.free.proofs.Plain.{count-type, count-types}
-use Rattle.free.proofs.Arms.{at-var, at-con, at-arrow, at-nil, at-cons, var-node}
+use Rattle.free.proofs.Arms.{at-var, at-con, at-arrow, at-nil, at-cons}
 use Rattle.free.proofs.Ways.{wants-as, collects-as, collects-same, first-wants, type-next, types-next, type-then, types-then}
 use Prim.Native.Nat.{ℕ, _<_}
 use borrow.Fn.Kinds.{In}

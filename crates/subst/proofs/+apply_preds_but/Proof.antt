@@ -2,11 +2,11 @@
 use borrow.Author.Needs.{needs}
 use mathlib.Core.Path.{_∙_}
 use native.Mathlib.Omega.{arith}
+use Rattle.ast.proofs.Join.{both-fit}
 use Rattle.ast.proofs.Laws.{cons-head, cons-tail, node-room}
 use Rattle.pairs.proofs.Frames.{long}
 use Rattle.apply.proofs.Hand.{gives, stays}
 use Rattle.apply.proofs.Arms.{but-first}
-use Rattle.apply.proofs.Ways.{both-fit}
 use Rattle.subst.proofs.PredWays.{no-preds, class-room, first-refused, rest-next, rest-refused, cell-room, cell-done}
 use Prim.Native.Nat.{ℕ, _<_}
 use borrow.Fn.Kinds.{In}
