@@ -53,6 +53,18 @@ get-filtered x (v ∷ vs) s = get-filtered x vs (remove tyvars v s) ∙ rw (get-
     go true false = refl
     go false b = refl
 
+-- The ways out of `find_but`: q is what `has_var` returned.
+module _ (ns w : List ℕ) (vs at k x : ℕ) {q : Bool} (e : q ≡ elem tyvars (tyvarOf ns x) (varsOf ns w vs)) where
+  -- The variable is one of the list.
+  pub found-none : q ≡ true → Nothing ≡ findBut ns w vs at k x
+  unfolding findBut
+  found-none i = rw (sym e ∙ i)
+
+  -- It is not.
+  pub found-as : {f : Found} → q ≡ false → f ≡ findAt w at k x → f ≡ findBut ns w vs at k x
+  unfolding findBut
+  found-as i h = rw (sym e ∙ i) h
+
 -- The words have for a variable what the substitution has that is left.
 get-but : (ns : List ℕ) → Names ns → (w : List ℕ) (vs at k x : ℕ) → get tyvars (tyvarOf ns x) (subBut ns w vs at k) ≡ L.typeOf ns w (findBut ns w vs at k x)
 unfolding findBut

@@ -41,7 +41,8 @@ fn find_but(
     pairs::find(base, work, at, k, x)
 }
 
-// The same, but the variables of the list vs stay: this is the substitution without them, of which no copy is made.
+// The k pairs from at applied to the type t, where the variables of the list vs stay: `apply_type` of the substitution
+// without them, with so much depth left. No step would pay for a copy of it.
 pub fn apply_but(
     base: &[u64],
     work: &mut [u64],
