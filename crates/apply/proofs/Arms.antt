@@ -16,9 +16,10 @@ use Rattle.ast.specs.declared.Shape.the-variants.{Var, Con, Arrow}
 use Rattle.ast.specs.declared.Cell.{Cell}
 use Rattle.ast.specs.declared.Cell.the-variants.{Nil, Cons}
 use Rattle.ast.proofs.Laws.{tree-var, tree-con, tree-arrow, list-nil, list-cons, var-is, low-list, kept-tree, kept-list, node-more}
-use Rattle.pairs.specs.Pairs.{subAt, Stands}
+use Rattle.vars.proofs.VarLaws.{kept-vars}
+use Rattle.pairs.specs.Pairs.{Stands}
 use Rattle.pairs.proofs.Frames.{sub-stands, sub-later}
-use Rattle.apply.specs.Region.{Ready, Grown}
+use Rattle.apply.specs.Region.{subBut, Ready, ReadyBut, Grown}
 use Rattle.apply.proofs.Hand.{Then}
 
 -- No depth is left.
@@ -38,10 +39,6 @@ unfolding apply-in step
 apply-step zero l s a p q = absurd (p refl)
 apply-step (suc d) zero s a p q = absurd (q refl)
 apply-step (suc d) (suc l) s a p q = simp sub-one
-
--- A variable is the word of its type.
-pub var-node : {w : List ℕ} {top t x : ℕ} {r : Shape} → Node w top t → r ≡ shapeOf w t → r ≡ Var x → Node w top x
-var-node N e k = rw (var-is N e k) N
 
 -- What `apply` does at a type: r is what `shape_at` returned.
 module _ {w : List ℕ} {top left t : ℕ} (ns : List ℕ) (N : Node w top t) (S : Subst) {depth : ℕ} (dp : depth ≡ 0 → ⊥) (lp : left ≡ 0 → ⊥)
@@ -101,15 +98,28 @@ ready-then R F u G h e N =
     let x = G .more in let y = G .spent in let z = R .room in
     record { names = R .names; node = node-more (G .node .table) x N; room = omega arith; sub = sub-later F (R .sub) u x (omega arith) }
 
+-- The same where variables stay: no more steps.
+pub but-first : {ns w : List ℕ} {top left at k vs t l b : ℕ} → ReadyBut ns w top left at k vs t → l ≤ left → Node w top b → ReadyBut ns w top l at k vs b
+but-first R h N = record { ty = ready-first (R .ty) h N; vars = R .vars }
+
+-- After another call.
+pub but-then : {ns w w₁ : List ℕ} {top left at k vs t hi b l m j top₁ c : ℕ} → ReadyBut ns w top left at k vs t → Stands w w₁ top hi → hi ≤ at → Grown b w₁ top l top₁ j m
+    → b ≤ 4 * top + 8 * left → length w₁ ≡ length w → Node w top c → ReadyBut ns w₁ top₁ j at k vs c
+but-then R F u G h e N = record { ty = ready-then (R .ty) F u G h e N; vars = node-more (G .node .table) (G .more) (R .vars) }
+
 -- What the pairs do to an older type is the same after another call.
-module _ {ns w w₁ : List ℕ} {top left at k t hi : ℕ} (R : Ready ns w top left at k t) (F : Stands w w₁ top hi) (u : hi ≤ at) where
+module _ {ns w w₁ : List ℕ} {top left at k vs t hi : ℕ} (R : ReadyBut ns w top left at k vs t) (F : Stands w w₁ top hi) (u : hi ≤ at) where
+  -- They are the same pairs, without the same variables.
+  pub but-kept : subBut ns w₁ vs at k ≡ subBut ns w vs at k
+  but-kept = rw (sub-stands ns (R .ty .node .table) F (R .ty .sub) u, kept-vars ns (F .low) (R .vars))
+
   -- To a type.
-  pub apply-kept : {b : ℕ} (d l : ℕ) → Node w top b → apply-in d (subAt ns w₁ at k) (tree ns w₁ b) l ≡ apply-in d (subAt ns w at k) (tree ns w b) l
-  apply-kept d l N = rw (sub-stands ns (R .node .table) F (R .sub) u, kept-tree ns (F .low) N)
+  pub apply-kept : {b : ℕ} (d l : ℕ) → Node w top b → apply-in d (subBut ns w₁ vs at k) (tree ns w₁ b) l ≡ apply-in d (subBut ns w vs at k) (tree ns w b) l
+  apply-kept d l N = rw (but-kept, kept-tree ns (F .low) N)
 
   -- To a list of types.
-  pub each-kept : {b : ℕ} (d l : ℕ) → Node w top b → each (apply-in d (subAt ns w₁ at k)) (list ns w₁ b) l ≡ each (apply-in d (subAt ns w at k)) (list ns w b) l
-  each-kept d l N = rw (sub-stands ns (R .node .table) F (R .sub) u, kept-list ns (F .low) N)
+  pub each-kept : {b : ℕ} (d l : ℕ) → Node w top b → each (apply-in d (subBut ns w₁ vs at k)) (list ns w₁ b) l ≡ each (apply-in d (subBut ns w vs at k)) (list ns w b) l
+  each-kept d l N = rw (but-kept, kept-list ns (F .low) N)
 
 -- An older type under an arrow or at the head of a list stands for what it stood for.
 module _ {w w′ : List ℕ} {top m : ℕ} (ns : List ℕ) (K : Kept w w′ top) (N : Node w top m) where

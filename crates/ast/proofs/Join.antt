@@ -39,6 +39,10 @@ push-at a b top t x y h = push-high a b top (4 * top - length a) t x y (omega ar
 pub joined : (a b : List ℕ) → length (a ++ b) ≡ length a + length b
 joined a b = length-append a b
 
+-- Two slices have no more words than this.
+pub both-fit : (a b : List ℕ) → length a < 2 ^ 64 → length b < 2 ^ 64 → length (a ++ b) < 2 ^ 65
+both-fit a b h k = let j = joined a b in omega arith
+
 -- A node that two slices have room for is one of those that a word can name.
 pub small-top : (a b : List ℕ) (top : ℕ) → length a < 2 ^ 64 → length b < 2 ^ 64 → 4 * top + 4 ≤ length (a ++ b) → top < first-node
 small-top a b top h k r = let j = joined a b in omega arith

@@ -186,6 +186,10 @@ module _ {w : List ℕ} {top t : ℕ} {r : Shape} (N : Node w top t) (e : r ≡ 
   pub var-is : {x : ℕ} → r ≡ Var x → x ≡ t
   var-is k = var-word w t (sym e ∙ k)
 
+  -- So it is a word of the table.
+  pub var-node : {x : ℕ} → r ≡ Var x → Node w top x
+  var-node k = rw (var-is k) N
+
   -- A constructor's arguments.
   pub con-child : {c l : ℕ} → r ≡ Con c l → (l < t) × Node w top l
   con-child k = let b = N .below in let h = rw k at shape-below in (h, record { table = N .table; below = omega arith })

@@ -3,3 +3,5 @@ pub mod Start
 pub mod PredLaws
 pub mod PredWays
 pub mod QualWays
+pub mod SchemeWays
+pub mod Wholes

@@ -5,13 +5,14 @@ use mathlib.Core.Path.{_≡_, refl, ap, sym, _∙_}
 use mathlib.Core.List.{List, [], _∷_, _++_}
 use lib.ListN.{length, set}
 use lib.Seq.{getD-set-same, getD-set-other}
-use Rattle.meaning.specs.Ast.{Name, Ty, Pred, pred}
+use Rattle.meaning.specs.Ast.{Name, Ty, Tys, TyVar, nil, _◂_, Pred, pred}
+use Rattle.meaning.specs.Subst.{ftv-type, ftv-types, ftv-preds}
 use Rattle.names.specs.Names.{first-node, nameOf}
-use Rattle.ast.specs.Table.{cellOf, tree, CellBelow, Table, Node, Kept, pushed}
+use Rattle.ast.specs.Table.{cellOf, tree, list, CellBelow, Table, Node, Kept, pushed}
 use Rattle.ast.specs.declared.Cell.{Cell}
 use Rattle.ast.specs.declared.Cell.the-variants.{Nil, Cons}
 use Rattle.ast.proofs.Ranges.{cell-low}
-use Rattle.ast.proofs.Laws.{Place, low, node, place, cells-below, kept-cell, kept-tree, kept-refl, kept-then, kept-node, no-nodes, low-node}
+use Rattle.ast.proofs.Laws.{Place, low, node, place, cells-below, kept-cell, kept-tree, kept-refl, kept-then, kept-node, no-nodes, low-node, list-nil, list-cons, cons-tail}
 use Rattle.ast.proofs.Join.{append-kept}
 use Rattle.ast.proofs.NewNode.{Pushed, push-cons, pushed-cell}
 use Rattle.pairs.specs.Pairs.{Stands}
@@ -70,6 +71,27 @@ module _ {w : List ℕ} {top l : ℕ} {r : Cell} (ns : List ℕ) (N : Node w top
   -- A first predicate and the rest.
   pub preds-cons : {a b : ℕ} → r ≡ Cons a b → predsOf ns w l ≡ pred (nameOf ns (classAt w l)) (tree ns w a) ∷ predsOf ns w b
   preds-cons k = rw k at preds-of
+
+-- No predicates and no types have no variables.
+no-types : (out : List TyVar) → ftv-preds [] out ≡ ftv-types nil out
+unfolding ftv-preds ftv-type
+no-types out = refl
+
+-- A first one, and the rest.
+one-type : (c : Name) (a : Ty) (ps : List Pred) (ts : Tys) (out : List TyVar) → ftv-preds ps (ftv-type a out) ≡ ftv-types ts (ftv-type a out) → ftv-preds (pred c a ∷ ps) out ≡ ftv-types (a ◂ ts) out
+unfolding ftv-preds ftv-type
+one-type c a ps ts out e = e
+
+-- The free variables of predicates are those of the types of their cells.
+pub preds-types : {w : List ℕ} {top : ℕ} (ns : List ℕ) (f l : ℕ) (out : List TyVar) → l < f → Node w top l → ftv-preds (predsOf ns w l) out ≡ ftv-types (list ns w l) out
+preds-types ns zero l out h N = absurd (omega arith)
+preds-types {w} {top} ns (suc f) l out h N = go (cellOf w l) refl (λ b out′ k M. preds-types ns f b out′ k M)
+  where
+    go : (c : Cell) → c ≡ cellOf w l → ((b : ℕ) (out′ : List TyVar) → b < f → Node w top b → ftv-preds (predsOf ns w b) out′ ≡ ftv-types (list ns w b) out′)
+        → ftv-preds (predsOf ns w l) out ≡ ftv-types (list ns w l) out
+    go Nil e ih = rw (preds-nil ns N e refl, list-nil ns N e refl) (no-types out)
+    go (Cons a b) e ih = let t = cons-tail N e refl in let k = t .0 in
+        rw (preds-cons ns N e refl, list-cons ns N e refl) (one-type _ (tree ns w a) (predsOf ns w b) (list ns w b) out (ih b (ftv-type (tree ns w a) out) (omega arith) (t .1)))
 
 -- A word that names no node is no predicates, over any words.
 pub low-preds : (ns w : List ℕ) (t : ℕ) → t < first-node → predsOf ns w t ≡ []

@@ -1,3 +1,4 @@
 pub mod Made
 pub mod Preds
 pub mod Quals
+pub mod Schemes

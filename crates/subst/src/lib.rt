@@ -1,4 +1,4 @@
-// Substitutions of 002 beside types: made of nothing, and applied to predicates and qualified types.
+// Substitutions of 002 beside types: made of nothing, and applied to predicates, qualified types and schemes.
 use apply::Applied;
 use ast::Cell;
 use errors::Refusal;
@@ -6,15 +6,17 @@ ghost use mathlib.Core.Path.{_≡_};
 ghost use mathlib.Core.List.{_++_};
 ghost use Prim.Native.Nat.{_+_, _*_, _-_, _≤_};
 ghost use lib.ListN.{length};
+ghost use Rattle.meaning.specs.Base.{null};
 ghost use Rattle.meaning.specs.Ast.{pred, qual};
-ghost use Rattle.meaning.specs.Subst.{apply-pred, apply-preds, apply-qual};
-ghost use Rattle.names.specs.Names.{first-node, nameOf};
-ghost use Rattle.ast.specs.Table.{tree};
+ghost use Rattle.meaning.specs.Subst.{apply-pred, apply-preds, apply-qual, apply-scheme, ftv-scheme};
+ghost use Rattle.names.specs.Names.{Names, first-node, nameOf};
+ghost use Rattle.ast.specs.Table.{tree, Node};
 ghost use Rattle.pairs.specs.Pairs.{subAt};
-ghost use Rattle.apply.specs.Region.{Ready, Gives};
+ghost use Rattle.apply.specs.Region.{subBut, Ready, ReadyBut, Gives};
 ghost use Rattle.subst.specs.Made.{Empty, Single};
 ghost use Rattle.subst.specs.Preds.{classAt, predsOf, pushedPred};
 ghost use Rattle.subst.specs.Quals.{ReadyQual, GivesQual};
+ghost use Rattle.subst.specs.Schemes.{schemeOf, ReadyScheme, GivesScheme};
 
 // A substitution: k pairs of the stack from word at.
 pub struct Subst {
@@ -68,6 +70,100 @@ pub fn push_pred(base: &[u64], work: &mut [u64], top: usize, class: usize, t: us
     ast::push(base, work, top, 3, t, next);
 }
 
+// The k pairs from at applied to the type of a predicate; the class stays, and so do the variables of the list vs.
+pub fn apply_pred_but(
+    base: &[u64],
+    work: &mut [u64],
+    names: &[u64],
+    top: usize,
+    left: usize,
+    at: usize,
+    k: usize,
+    vs: usize,
+    class: usize,
+    t: usize,
+) -> Applied
+    requires { ⌜ length (now base) ≤ 4 * top ⌝ }
+    requires { ⌜ ReadyBut (now names) (now base ++ now work) top left at k vs t ⌝ }
+    ensures { λ r. ⌜ Gives (λ u. pred (nameOf (now (names .entry)) class) (tree (now (names .entry)) (now (base .entry) ++ now (work .exit)) u)) (4 * top + 8 * left - 4) (now (names .entry))
+        (now (base .entry) ++ now (work .entry)) (now (base .entry) ++ now (work .exit)) top left
+        (apply-pred (subBut (now (names .entry)) (now (base .entry) ++ now (work .entry)) vs at k) (pred (nameOf (now (names .entry)) class) (tree (now (names .entry)) (now (base .entry) ++ now (work .entry)) t)) left) r ⌝ }
+{
+    apply::apply_but(base, work, names, top, left, 256, at, k, vs, t)
+}
+
+// The k pairs from at applied to each predicate of the list l, left to right; the variables of the list vs stay.
+pub fn apply_preds_but(
+    base: &[u64],
+    work: &mut [u64],
+    names: &[u64],
+    top: usize,
+    left: usize,
+    at: usize,
+    k: usize,
+    vs: usize,
+    l: usize,
+) -> Applied
+    requires { ⌜ length (now base) ≤ 4 * top ⌝ }
+    requires { ⌜ ReadyBut (now names) (now base ++ now work) top left at k vs l ⌝ }
+    ensures { λ r. ⌜ Gives (predsOf (now (names .entry)) (now (base .entry) ++ now (work .exit))) (4 * top + 8 * left) (now (names .entry))
+        (now (base .entry) ++ now (work .entry)) (now (base .entry) ++ now (work .exit)) top left
+        (apply-preds (subBut (now (names .entry)) (now (base .entry) ++ now (work .entry)) vs at k) (predsOf (now (names .entry)) (now (base .entry) ++ now (work .entry)) l) left) r ⌝ }
+{
+    let c = ast::cell_at(base, work, l);
+    match c {
+        Cell::Nil => Applied::Done(l, top, left),
+        Cell::Cons(a, b) => {
+            let p = class_at(base, work, l);
+            let r = apply_pred_but(base, work, names, top, left, at, k, vs, p, a);
+            match r {
+                Applied::Done(m, t2, l2) => {
+                    let q = apply_preds_but(base, work, names, t2, l2, at, k, vs, b);
+                    match q {
+                        Applied::Done(m2, t3, l3) => {
+                            push_pred(base, work, t3, p, m, m2);
+                            Applied::Done(names::NODE + t3, t3 + 1, l3)
+                        }
+                        Applied::Refused(e, t3, l3) => Applied::Refused(e, t3, l3),
+                    }
+                }
+                Applied::Refused(e, t2, l2) => Applied::Refused(e, t2, l2),
+            }
+        }
+    }
+}
+
+// The k pairs from at applied to predicates, then to the type under them; the variables of the list vs stay.
+pub fn apply_qual_but(
+    base: &[u64],
+    work: &mut [u64],
+    names: &[u64],
+    top: usize,
+    left: usize,
+    at: usize,
+    k: usize,
+    vs: usize,
+    preds: usize,
+    t: usize,
+) -> AppliedQual
+    requires { ⌜ length (now base) ≤ 4 * top ⌝ }
+    requires { ⌜ ReadyScheme (now names) (now base ++ now work) top left at k vs preds t ⌝ }
+    ensures { λ r. ⌜ GivesQual (now (names .entry)) (now (base .entry) ++ now (work .entry)) (now (base .entry) ++ now (work .exit)) top left
+        (apply-qual (subBut (now (names .entry)) (now (base .entry) ++ now (work .entry)) vs at k) (qual (predsOf (now (names .entry)) (now (base .entry) ++ now (work .entry)) preds) (tree (now (names .entry)) (now (base .entry) ++ now (work .entry)) t)) left) r ⌝ }
+{
+    let r = apply_preds_but(base, work, names, top, left, at, k, vs, preds);
+    match r {
+        Applied::Done(ps, t2, l2) => {
+            let q = apply::apply_but(base, work, names, t2, l2, 256, at, k, vs, t);
+            match q {
+                Applied::Done(u, t3, l3) => AppliedQual::Done(ps, u, t3, l3),
+                Applied::Refused(e, t3, l3) => AppliedQual::Refused(e, t3, l3),
+            }
+        }
+        Applied::Refused(e, t2, l2) => AppliedQual::Refused(e, t2, l2),
+    }
+}
+
 // `apply_pred`: the k pairs from at applied to the type of a predicate; the class stays.
 pub fn apply_pred(
     base: &[u64],
@@ -86,7 +182,7 @@ pub fn apply_pred(
         (now (base .entry) ++ now (work .entry)) (now (base .entry) ++ now (work .exit)) top left
         (apply-pred (subAt (now (names .entry)) (now (base .entry) ++ now (work .entry)) at k) (pred (nameOf (now (names .entry)) class) (tree (now (names .entry)) (now (base .entry) ++ now (work .entry)) t)) left) r ⌝ }
 {
-    apply::apply(base, work, names, top, left, 256, at, k, t)
+    apply_pred_but(base, work, names, top, left, at, k, ast::NIL, class, t)
 }
 
 // `apply_preds`: the k pairs from at applied to each predicate of the list l, left to right.
@@ -106,27 +202,7 @@ pub fn apply_preds(
         (now (base .entry) ++ now (work .entry)) (now (base .entry) ++ now (work .exit)) top left
         (apply-preds (subAt (now (names .entry)) (now (base .entry) ++ now (work .entry)) at k) (predsOf (now (names .entry)) (now (base .entry) ++ now (work .entry)) l) left) r ⌝ }
 {
-    let c = ast::cell_at(base, work, l);
-    match c {
-        Cell::Nil => Applied::Done(l, top, left),
-        Cell::Cons(a, b) => {
-            let p = class_at(base, work, l);
-            let r = apply_pred(base, work, names, top, left, at, k, p, a);
-            match r {
-                Applied::Done(m, t2, l2) => {
-                    let q = apply_preds(base, work, names, t2, l2, at, k, b);
-                    match q {
-                        Applied::Done(m2, t3, l3) => {
-                            push_pred(base, work, t3, p, m, m2);
-                            Applied::Done(names::NODE + t3, t3 + 1, l3)
-                        }
-                        Applied::Refused(e, t3, l3) => Applied::Refused(e, t3, l3),
-                    }
-                }
-                Applied::Refused(e, t2, l2) => Applied::Refused(e, t2, l2),
-            }
-        }
-    }
+    apply_preds_but(base, work, names, top, left, at, k, ast::NIL, l)
 }
 
 // `apply_qual`: the k pairs from at applied to predicates, then to the type under them.
@@ -146,15 +222,52 @@ pub fn apply_qual(
     ensures { λ r. ⌜ GivesQual (now (names .entry)) (now (base .entry) ++ now (work .entry)) (now (base .entry) ++ now (work .exit)) top left
         (apply-qual (subAt (now (names .entry)) (now (base .entry) ++ now (work .entry)) at k) (qual (predsOf (now (names .entry)) (now (base .entry) ++ now (work .entry)) preds) (tree (now (names .entry)) (now (base .entry) ++ now (work .entry)) t)) left) r ⌝ }
 {
-    let r = apply_preds(base, work, names, top, left, at, k, preds);
-    match r {
-        Applied::Done(ps, t2, l2) => {
-            let q = apply::apply(base, work, names, t2, l2, 256, at, k, t);
-            match q {
-                Applied::Done(u, t3, l3) => AppliedQual::Done(ps, u, t3, l3),
-                Applied::Refused(e, t3, l3) => AppliedQual::Refused(e, t3, l3),
-            }
-        }
-        Applied::Refused(e, t2, l2) => AppliedQual::Refused(e, t2, l2),
+    apply_qual_but(base, work, names, top, left, at, k, ast::NIL, preds, t)
+}
+
+// Whether the scheme of the variables vs over predicates and a type has no free variables. The cells of predicates are
+// those of a list of types.
+pub fn is_closed(
+    base: &[u64],
+    work: &[u64],
+    names: &[u64],
+    top: usize,
+    vs: usize,
+    preds: usize,
+    t: usize,
+) -> bool
+    requires { ⌜ Names (now names) ⌝ }
+    requires { ⌜ Node (now base ++ now work) top vs ⌝ }
+    requires { ⌜ Node (now base ++ now work) top preds ⌝ }
+    requires { ⌜ Node (now base ++ now work) top t ⌝ }
+    ensures { λ r. ⌜ r ≡ null (ftv-scheme (schemeOf (now (names .entry)) (now (base .entry) ++ now (work .entry)) vs preds t)) ⌝ }
+{
+    if vars::all_bound(base, work, names, top, vs, t) {
+        return vars::all_bound_list(base, work, names, top, vs, preds);
     }
+    false
+}
+
+// `apply_scheme`: the k pairs from at applied to a scheme; one without free variables stays, for no step.
+pub fn apply_scheme(
+    base: &[u64],
+    work: &mut [u64],
+    names: &[u64],
+    top: usize,
+    left: usize,
+    at: usize,
+    k: usize,
+    vs: usize,
+    preds: usize,
+    t: usize,
+) -> AppliedQual
+    requires { ⌜ length (now base) ≤ 4 * top ⌝ }
+    requires { ⌜ ReadyScheme (now names) (now base ++ now work) top left at k vs preds t ⌝ }
+    ensures { λ r. ⌜ GivesScheme (now (names .entry)) (now (base .entry) ++ now (work .entry)) (now (base .entry) ++ now (work .exit)) top left vs preds t
+        (apply-scheme (subAt (now (names .entry)) (now (base .entry) ++ now (work .entry)) at k) (schemeOf (now (names .entry)) (now (base .entry) ++ now (work .entry)) vs preds t) left) r ⌝ }
+{
+    if is_closed(base, work, names, top, vs, preds, t) {
+        return AppliedQual::Done(preds, t, top, left);
+    }
+    apply_qual_but(base, work, names, top, left, at, k, vs, preds, t)
 }

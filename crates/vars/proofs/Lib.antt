@@ -1,0 +1,3 @@
+-- What the proofs of this crate and of callers use.
+pub mod VarLaws
+pub mod Bound
