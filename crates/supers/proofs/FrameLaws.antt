@@ -13,8 +13,8 @@ use Rattle.pairs.specs.Pairs.{Stands}
 use Rattle.pairs.specs.declared.Found.{Found}
 use Rattle.pairs.specs.declared.Found.the-variants.{At, Nothing}
 use Rattle.pairs.proofs.Frames.{stands-then, put-stands}
-use Rattle.supers.specs.declared.Entered.{Entered}
-use Rattle.supers.specs.declared.Entered.the-variants.{Up, Deep, Spent, Hit, Miss}
+use Rattle.supers.specs.declared.path.Entered.{Entered}
+use Rattle.supers.specs.declared.path.Entered.the-variants.{Up, Deep, Spent, Hit, Miss}
 use Rattle.supers.specs.ClassTable.{superAt}
 use Rattle.supers.specs.Frames.{classIn, takenIn, framed, taken, pathCore, EntersAs, Enters, Took, TurnsAs, Turns}
 

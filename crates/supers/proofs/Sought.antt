@@ -24,8 +24,8 @@ use Rattle.cores.proofs.TermLaws.{kept-core}
 use Rattle.supers.specs.declared.Root.{Root}
 use Rattle.supers.specs.declared.Given.{Given}
 use Rattle.supers.specs.declared.Given.the-variants.{One, Nothing}
-use Rattle.supers.specs.declared.Entered.{Entered}
-use Rattle.supers.specs.declared.Entered.the-variants.{Up, Deep, Spent, Hit, Miss}
+use Rattle.supers.specs.declared.path.Entered.{Entered}
+use Rattle.supers.specs.declared.path.Entered.the-variants.{Up, Deep, Spent, Hit, Miss}
 use Rattle.supers.specs.declared.Searched.the-variants.{Found, Nothing as Found-Nothing, Refused}
 use Rattle.supers.specs.ClassTable.{Supers}
 use Rattle.supers.specs.Givens.{givensOf, First, GivenAt}

@@ -11,8 +11,8 @@ use Rattle.meaning.specs.Budget.{Out}
 use Rattle.names.specs.Names.{nameOf}
 use Rattle.pairs.specs.Pairs.{Stands}
 use Rattle.pairs.proofs.Frames.{stands-refl, stands-then}
-use Rattle.supers.specs.declared.Entered.{Entered}
-use Rattle.supers.specs.declared.Entered.the-variants.{Up, Deep, Spent, Hit, Miss}
+use Rattle.supers.specs.declared.path.Entered.{Entered}
+use Rattle.supers.specs.declared.path.Entered.the-variants.{Up, Deep, Spent, Hit, Miss}
 use Rattle.supers.specs.ClassTable.{Supers}
 use Rattle.supers.specs.Frames.{taken, EntersAs, Enters, Took, TurnsAs, Turns}
 use Rattle.supers.proofs.FrameLaws.{framed-stands, framed-length, took-stands, took-length}
