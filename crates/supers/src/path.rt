@@ -20,7 +20,8 @@ pub enum Entered {
 // How deep a walk may go.
 const DEPTH: usize = 256;
 
-// The entry of class s below d others takes a step, and a frame with none of its superclasses taken.
+// The entry of class s below d others takes a step, and a frame with none of its superclasses taken. It is the goal if it
+// has the goal's class, the types are the same and it is not barred, as a given is where the entry must be proper.
 pub fn enter(
     base: &[u64],
     work: &mut [u64],
