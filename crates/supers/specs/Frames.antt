@@ -8,7 +8,6 @@ use Rattle.meaning.specs.Ast.{super, Core, dict-proj}
 use Rattle.names.specs.Names.{nameOf}
 use Rattle.ast.specs.Table.{Node}
 use Rattle.pairs.specs.Pairs.{Stands}
-use Rattle.pairs.specs.declared.Found.{Found}
 use Rattle.pairs.specs.declared.Found.the-variants.{At, Nothing}
 use Rattle.cores.specs.Terms.{core}
 use Rattle.supers.specs.ClassTable.{superAt}

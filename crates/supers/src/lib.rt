@@ -8,7 +8,7 @@ use path::Entered;
 ghost use mathlib.Core.Path.{_≡_};
 ghost use mathlib.Core.Bool.{true, false};
 ghost use mathlib.Core.List.{_++_};
-ghost use Prim.Native.Nat.{ℕ, _+_, _*_, _-_, _<_, _≤_};
+ghost use Prim.Native.Nat.{_+_, _*_, _-_, _≤_};
 ghost use lib.ListN.{length};
 ghost use Rattle.meaning.specs.Ast.{pred};
 ghost use Rattle.meaning.specs.Classes.{from-givens, resolve-from-givens};
