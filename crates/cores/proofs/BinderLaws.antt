@@ -1,7 +1,7 @@
 -- Laws of lists of binders: what a list stands for by its cell, and that it stands where its words do.
-use Prim.Native.Nat.{ℕ, zero, suc, _+_, _*_, _-_, _/_, _%_, _<_, _≤_}
+use Prim.Native.Nat.{ℕ, zero, suc, _+_, _*_, _-_, _/_, _%_, _<_}
 use native.Mathlib.Omega.{arith}
-use mathlib.Core.Path.{_≡_, refl, ap, sym, _∙_}
+use mathlib.Core.Path.{_≡_, refl, _∙_}
 use mathlib.Core.List.{List, [], _∷_}
 use Rattle.meaning.specs.Ast.{Ty, dvar, pred, Binder}
 use Rattle.names.specs.Names.{first-node, nameOf}

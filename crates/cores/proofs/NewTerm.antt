@@ -1,20 +1,18 @@
 -- Laws of a new node that is a core term: what is pushed is read back, and all below it stands.
-use Prim.Native.Nat.{ℕ, zero, suc, _+_, _*_, _-_, _<_, _≤_}
+use Prim.Native.Nat.{ℕ, _+_, _*_, _<_, _≤_}
 use native.Mathlib.Omega.{arith}
 use mathlib.Core.Path.{_≡_, refl, ap, sym, _∙_}
-use mathlib.Core.Bool.{Bool, true, false}
 use mathlib.Core.List.{List}
 use lib.ListN.{length, getD, set}
 use lib.Seq.{getD-set-same, getD-set-other}
 use borrow.Author.Tests.{lt-ltb}
-use Rattle.meaning.specs.Ast.{super, Core, Cores, dict-app, dict-proj, dict-rec, cnil, _◃_}
+use Rattle.meaning.specs.Ast.{super, dict-app, dict-proj, dict-rec, _◃_}
 use Rattle.names.specs.Names.{first-node, nameOf}
-use Rattle.ast.specs.Table.{shape, cell, tree, ShapeBelow, CellBelow, Table, Node, Kept, pushed}
-use Rattle.ast.proofs.Laws.{kept-tree, kept-then, kept-node, kept-table}
+use Rattle.ast.specs.Table.{shape, cell, tree, ShapeBelow, CellBelow, Table, Node, pushed}
+use Rattle.ast.proofs.Laws.{kept-tree, kept-table}
 use Rattle.ast.proofs.NewNode.{Pushed, pushed-0, pushed-1, pushed-2, pushed-kept, pushed-node, pushed-cell, length-pushed}
 use Rattle.pairs.specs.Pairs.{Stands}
 use Rattle.pairs.proofs.Frames.{stands-then, pushed-stands, put-length, put-stands}
-use Rattle.cores.specs.declared.Part.{Part}
 use Rattle.cores.specs.declared.Part.the-variants.{DictApp, Super, Rec}
 use Rattle.cores.specs.Parts.{nodePart, readPart, checked, partOf, pushedFour}
 use Rattle.cores.specs.Terms.{core, cores}

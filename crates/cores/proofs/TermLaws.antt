@@ -1,12 +1,11 @@
 -- Laws of core terms: what a word stands for by what it says and what its parts stand for, and that it stands where its
 -- words do.
-use Prim.Native.Nat.{ℕ, zero, suc, _+_, _*_, _-_, _/_, _%_, _<_, _≤_}
+use Prim.Native.Nat.{ℕ, zero, suc, _+_, _*_, _-_, _/_, _%_, _<_}
 use native.Mathlib.Omega.{arith}
-use mathlib.Core.Path.{_≡_, refl, ap, sym, _∙_}
-use mathlib.Core.Bool.{true, false}
+use mathlib.Core.Path.{_≡_, refl, ap, _∙_}
 use mathlib.Core.List.{List, _++_}
-use borrow.Author.Tests.{eq-eqb, ne-eqb, lt-ltb, le-ltb}
-use Rattle.meaning.specs.Ast.{Ty, dvar, ctx, Binder, Core, Cores, cdict, dict-app, cnil, _◃_}
+use borrow.Author.Tests.{ne-eqb, le-ltb}
+use Rattle.meaning.specs.Ast.{Ty, dvar, ctx, Binder, Core, Cores, cdict, cnil, _◃_}
 use Rattle.names.specs.Names.{first-fresh, first-nullary, first-node, nameOf}
 use Rattle.names.proofs.Where.{is-fresh, is-nullary}
 use Rattle.ast.specs.Table.{cellOf, tree, CellBelow, Table, Node, Kept}

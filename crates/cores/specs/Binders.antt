@@ -2,7 +2,7 @@
 use mathlib.Core.List.{List, [], _∷_}
 use Prim.Native.Nat.{ℕ, zero, suc, _+_, _*_, _-_, _/_, _%_}
 use lib.ListN.{getD}
-use Rattle.meaning.specs.Ast.{DictName, dvar, Name, Ty, Pred, pred, Binder}
+use Rattle.meaning.specs.Ast.{dvar, Ty, pred, Binder}
 use Rattle.names.specs.Names.{first-node, nameOf}
 use Rattle.ast.specs.Table.{cellOf, tree}
 use Rattle.ast.specs.declared.Cell.{Cell}

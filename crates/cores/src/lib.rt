@@ -2,8 +2,8 @@
 use names::Kind;
 ghost use mathlib.Core.Path.{_≡_};
 ghost use mathlib.Core.List.{_++_};
-ghost use Prim.Native.Nat.{ℕ, _+_, _*_, _<_, _≤_};
-ghost use lib.ListN.{length, getD};
+ghost use Prim.Native.Nat.{_+_, _*_, _<_, _≤_};
+ghost use lib.ListN.{length};
 ghost use Rattle.names.specs.Names.{first-node};
 ghost use Rattle.cores.specs.Parts.{constantPart, nodePart, readPart, isBelow, partOf, pushedFour};
 

@@ -1,11 +1,11 @@
 -- The loop of `build`: j projections have been made, along the first frames.
 use mathlib.Core.Path.{_≡_, refl, ap, sym, _∙_}
 use mathlib.Core.List.{List, []}
-use Prim.Native.Nat.{ℕ, zero, suc, _+_, _*_, _-_, _<_, _≤_}
+use Prim.Native.Nat.{ℕ, suc, _+_, _*_, _-_, _<_, _≤_}
 use native.Mathlib.Omega.{arith}
 use native.Mathlib.Numerals.{add-one}
 use lib.ListN.{length, getD}
-use Rattle.meaning.specs.Ast.{super, Core, dict-proj}
+use Rattle.meaning.specs.Ast.{super, dict-proj}
 use Rattle.names.specs.Names.{first-node, nameOf}
 use Rattle.ast.specs.Table.{Node}
 use Rattle.ast.proofs.NewNode.{Pushed}

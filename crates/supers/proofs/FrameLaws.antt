@@ -1,22 +1,21 @@
 -- Laws of the frames: which stand when a frame is written or one more superclass is taken, and what the contracts of
 -- `enter` and `turn` ask.
-use mathlib.Core.Path.{_≡_, refl, ap, sym, _∙_, subst}
+use mathlib.Core.Path.{_≡_, refl, sym, _∙_, subst}
 use mathlib.Core.Bool.{Bool, true, false}
 use mathlib.Core.List.{List}
 use Prim.Native.Nat.{ℕ, zero, suc, _+_, _*_, _-_, _<_, _≤_}
 use native.Mathlib.Omega.{arith}
 use lib.ListN.{length, getD, set, length-set}
 use lib.Seq.{getD-set-same, getD-set-other}
-use Rattle.meaning.specs.Ast.{super, Core, dict-proj}
-use Rattle.names.specs.Names.{nameOf}
+use Rattle.meaning.specs.Ast.{Core}
 use Rattle.pairs.specs.Pairs.{Stands}
 use Rattle.pairs.specs.declared.Found.{Found}
 use Rattle.pairs.specs.declared.Found.the-variants.{At, Nothing}
 use Rattle.pairs.proofs.Frames.{stands-then, put-stands}
-use Rattle.supers.specs.declared.Entered.{Entered}
-use Rattle.supers.specs.declared.Entered.the-variants.{Up, Deep, Spent, Hit, Miss}
+use Rattle.supers.specs.declared.path.Entered.{Entered}
+use Rattle.supers.specs.declared.path.Entered.the-variants.{Up, Deep, Spent, Hit, Miss}
 use Rattle.supers.specs.ClassTable.{superAt}
-use Rattle.supers.specs.Frames.{classIn, takenIn, framed, taken, pathCore, EntersAs, Enters, Took, TurnsAs, Turns}
+use Rattle.supers.specs.Frames.{classIn, takenIn, framed, taken, pathCore, EntersAs, Enters, TurnsAs}
 
 -- A dictionary on the path is told by the classes up to it.
 pub path-classes : (w w′ ns : List ℕ) (sp : ℕ) (e : Core) (j : ℕ) → ((k : ℕ) → k ≤ j → classIn w′ sp k ≡ classIn w sp k) → pathCore ns w′ sp e j ≡ pathCore ns w sp e j

@@ -1,22 +1,19 @@
 -- Laws of lists of givens: the first of a list by its cell, and that a list stands where its words do.
-use mathlib.Core.Path.{_≡_, refl, ap, sym, _∙_}
-use mathlib.Core.Bool.{false}
-use mathlib.Core.List.{List, [], _∷_}
-use Prim.Native.Nat.{ℕ, suc, _+_, _*_, _-_, _/_, _%_, _^_, _<_, _≤_}
+use mathlib.Core.Path.{_≡_, refl, ap}
+use mathlib.Core.List.{List, []}
+use Prim.Native.Nat.{ℕ, suc, _+_, _*_, _/_, _%_, _^_, _<_, _≤_}
 use native.Mathlib.Omega.{arith}
 use Rattle.meaning.specs.Base.{count}
-use Rattle.meaning.specs.Ast.{ctx, dvar, cdict}
-use Rattle.meaning.specs.Reduce.{roots, not-root}
+use Rattle.meaning.specs.Reduce.{not-root}
 use Rattle.meaning.specs.Declare.{context-binders}
-use Rattle.names.specs.Names.{first-fresh, first-nullary, first-node, nameOf}
-use Rattle.ast.specs.Table.{cellOf, tree, Node, Kept}
+use Rattle.names.specs.Names.{first-fresh, first-nullary}
+use Rattle.ast.specs.Table.{cellOf, Node, Kept}
 use Rattle.ast.specs.declared.Cell.{Cell}
 use Rattle.ast.specs.declared.Cell.the-variants.{Nil, Cons}
 use Rattle.ast.proofs.Laws.{cons-head, cons-tail}
 use Rattle.subst.specs.Preds.{classAt, predsOf}
 use Rattle.subst.proofs.PredLaws.{preds-nil, preds-cons, kept-preds}
-use Rattle.cores.specs.Binders.{fourthAt, bindersOf}
-use Rattle.cores.specs.Terms.{core}
+use Rattle.cores.specs.Binders.{fourthAt}
 use Rattle.cores.proofs.BinderLaws.{binders-nil, binders-cons, kept-binders}
 use Rattle.cores.proofs.TermLaws.{dict-core, context-core}
 use Rattle.supers.specs.declared.Root.{Root}

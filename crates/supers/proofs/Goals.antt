@@ -4,7 +4,7 @@ use mathlib.Core.Bool.{Bool, true, false, _&&_}
 use mathlib.Core.List.{List}
 use Prim.Native.Nat.{ℕ}
 use Rattle.meaning.specs.Base.{yes?}
-use Rattle.meaning.specs.Ast.{Name, same-name, Field, Ty, same-ty, Pred, pred, both-same, same-pred, Core, dict-proj}
+use Rattle.meaning.specs.Ast.{same-name, Field, Ty, same-ty, pred, both-same, same-pred, Core, dict-proj}
 use Rattle.meaning.specs.Reduce.{not-root}
 use Rattle.names.specs.Names.{Names, nameOf}
 use Rattle.names.proofs.Distinct.{nameOf-same}

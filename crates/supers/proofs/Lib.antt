@@ -1,4 +1,5 @@
 pub mod ClassLaws
+pub mod ClassEnvs
 pub mod GivenLaws
 pub mod FrameLaws
 pub mod Building

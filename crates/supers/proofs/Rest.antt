@@ -1,7 +1,7 @@
 -- What is left of a walk: the superclasses that no frame has taken, frame by frame, and then what follows the walk.
 use mathlib.Core.Path.{_≡_, refl, ap, sym, _∙_}
 use mathlib.Core.Bool.{Bool, true, false}
-use mathlib.Core.List.{List, [], _∷_, map}
+use mathlib.Core.List.{List, map}
 use mathlib.Core.Option.{Option, none, some}
 use Prim.Native.Nat.{ℕ, zero, suc, _+_, _*_, _-_, _<_, _≤_}
 use native.Mathlib.Omega.{arith}
@@ -14,8 +14,8 @@ use Rattle.meaning.specs.Budget.{Out, done, refused, Steps, after, step}
 use Rattle.meaning.specs.Classes.{ClassEnv, class-of, supers-of, or-next, by-supers, by-super-in}
 use Rattle.names.specs.Names.{nameOf}
 use Rattle.pairs.specs.declared.Found.the-variants.{At, Nothing}
-use Rattle.supers.specs.declared.Entered.{Entered}
-use Rattle.supers.specs.declared.Entered.the-variants.{Up, Deep, Spent, Hit, Miss}
+use Rattle.supers.specs.declared.path.Entered.{Entered}
+use Rattle.supers.specs.declared.path.Entered.the-variants.{Up, Deep, Spent, Hit, Miss}
 use Rattle.supers.specs.ClassTable.{superAt, supersFrom, Supers}
 use Rattle.supers.specs.Frames.{classIn, takenIn, framed, taken, pathCore, EntersAs}
 use Rattle.supers.proofs.ClassLaws.{supers-next, supers-end}

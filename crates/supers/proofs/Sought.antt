@@ -1,22 +1,20 @@
 -- The outer loop of `search`: what all givens give is what those from g on give now.
-use mathlib.Core.Path.{_≡_, refl, ap, sym, _∙_}
-use mathlib.Core.Bool.{Bool, true, false}
-use mathlib.Core.List.{List, [], _∷_}
-use mathlib.Core.Option.{Option, none, some}
-use Prim.Native.Nat.{ℕ, zero, suc, _+_, _*_, _-_, _<_, _≤_}
+use mathlib.Core.Path.{_≡_, refl, ap, _∙_}
+use mathlib.Core.Bool.{Bool}
+use mathlib.Core.List.{List}
+use mathlib.Core.Option.{Option}
+use Prim.Native.Nat.{ℕ, suc, _+_, _*_, _-_, _<_, _≤_}
 use native.Mathlib.Omega.{arith}
 use native.Mathlib.Numerals.{add-one}
 use lib.ListN.{length}
 use Rattle.meaning.specs.Base.{yes?}
 use Rattle.meaning.specs.Ast.{same-ty, pred, Core}
-use Rattle.meaning.specs.Errors.{too-deep, out-of-steps}
-use Rattle.meaning.specs.Budget.{Out, done, refused, Steps, after}
-use Rattle.meaning.specs.Classes.{ClassEnv, or-next, from-givens}
+use Rattle.meaning.specs.Budget.{Steps}
+use Rattle.meaning.specs.Classes.{ClassEnv, from-givens}
 use Rattle.names.specs.Names.{nameOf}
-use Rattle.ast.specs.Table.{tree, Node, Kept}
+use Rattle.ast.specs.Table.{tree, Node}
 use Rattle.ast.proofs.Laws.{kept-tree, kept-node, low-node}
 use Rattle.errors.specs.declared.Refusal.the-variants.{Depth, Steps as No-Steps}
-use Rattle.errors.specs.Refusals.{Refuses}
 use Rattle.pairs.specs.Pairs.{Stands}
 use Rattle.pairs.proofs.Frames.{stands-refl, stands-then, stands-up}
 use Rattle.cores.specs.Terms.{core}
@@ -24,13 +22,13 @@ use Rattle.cores.proofs.TermLaws.{kept-core}
 use Rattle.supers.specs.declared.Root.{Root}
 use Rattle.supers.specs.declared.Given.{Given}
 use Rattle.supers.specs.declared.Given.the-variants.{One, Nothing}
-use Rattle.supers.specs.declared.Entered.{Entered}
-use Rattle.supers.specs.declared.Entered.the-variants.{Up, Deep, Spent, Hit, Miss}
+use Rattle.supers.specs.declared.path.Entered.{Entered}
+use Rattle.supers.specs.declared.path.Entered.the-variants.{Deep, Spent, Hit}
 use Rattle.supers.specs.declared.Searched.the-variants.{Found, Nothing as Found-Nothing, Refused}
 use Rattle.supers.specs.ClassTable.{Supers}
 use Rattle.supers.specs.Givens.{givensOf, First, GivenAt}
 use Rattle.supers.specs.Frames.{Enters, Built}
-use Rattle.supers.specs.Search.{hits, ReadySearch, Finds, GivesFound}
+use Rattle.supers.specs.Search.{hits, ReadySearch, GivesFound}
 use Rattle.supers.proofs.GivenLaws.{kept-givens, kept-few}
 use Rattle.supers.proofs.Goals.{proj-hit, proj-miss, root-hit, root-miss}
 use Rattle.supers.proofs.Rest.{Way, or-then, todo, next, pending, enters}
@@ -174,10 +172,6 @@ module _ {ns cl w₀ w : List ℕ} {top left sp l goal t g i n : ℕ} {root : Ro
           let o = A .ready .ty .table .room in
           let z = holds-at K h in
           (omega arith, (omega arith, kept-node (since .low) (omega arith) (low-node (A .ready .ty .table) (first .low))))
-
-    -- As many words between two entries.
-    pub still-long : {w₂ : List ℕ} {n₂ d : ℕ} → Going ns cl w₁ top sp n goal same r₁ w₂ n₂ d → length w₂ ≡ length w₀
-    still-long K = K .long ∙ entered .1 ∙ A .long
 
     -- The walk is over: the loop comes to the rest.
     pub asks-on : {w₂ : List ℕ} {n₂ d : ℕ} → Going ns cl w₁ top sp n goal same r₁ w₂ n₂ d → d ≡ 0 → Asking ns cl w₀ top left sp root l proper goal t w₂ rest (i + 1) n₂

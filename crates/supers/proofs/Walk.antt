@@ -1,18 +1,16 @@
 -- The inner loop of `search`: what was left at its begin is what is left now.
-use mathlib.Core.Path.{_≡_, refl, ap, sym, _∙_, subst}
+use mathlib.Core.Path.{_≡_, refl, ap, _∙_}
 use mathlib.Core.Bool.{Bool, true, false}
 use mathlib.Core.List.{List}
-use mathlib.Core.Option.{Option}
-use Prim.Native.Nat.{ℕ, zero, suc, _+_, _*_, _-_, _<_, _≤_}
+use Prim.Native.Nat.{ℕ, suc, _+_, _*_, _-_, _<_, _≤_}
 use native.Mathlib.Omega.{arith}
 use lib.ListN.{length}
-use Rattle.meaning.specs.Ast.{Field, super, pred, Core, dict-proj}
-use Rattle.meaning.specs.Budget.{Out}
+use Rattle.meaning.specs.Ast.{Field, pred, Core, dict-proj}
 use Rattle.names.specs.Names.{nameOf}
 use Rattle.pairs.specs.Pairs.{Stands}
 use Rattle.pairs.proofs.Frames.{stands-refl, stands-then}
-use Rattle.supers.specs.declared.Entered.{Entered}
-use Rattle.supers.specs.declared.Entered.the-variants.{Up, Deep, Spent, Hit, Miss}
+use Rattle.supers.specs.declared.path.Entered.{Entered}
+use Rattle.supers.specs.declared.path.Entered.the-variants.{Up, Deep, Spent, Hit, Miss}
 use Rattle.supers.specs.ClassTable.{Supers}
 use Rattle.supers.specs.Frames.{taken, EntersAs, Enters, Took, TurnsAs, Turns}
 use Rattle.supers.proofs.FrameLaws.{framed-stands, framed-length, took-stands, took-length}

@@ -8,12 +8,11 @@ use Rattle.meaning.specs.Ast.{super, Core, dict-proj}
 use Rattle.names.specs.Names.{nameOf}
 use Rattle.ast.specs.Table.{Node}
 use Rattle.pairs.specs.Pairs.{Stands}
-use Rattle.pairs.specs.declared.Found.{Found}
 use Rattle.pairs.specs.declared.Found.the-variants.{At, Nothing}
 use Rattle.cores.specs.Terms.{core}
 use Rattle.supers.specs.ClassTable.{superAt}
-use Rattle.supers.specs.declared.Entered.{Entered}
-use Rattle.supers.specs.declared.Entered.the-variants.{Up, Deep, Spent, Hit, Miss}
+use Rattle.supers.specs.declared.path.Entered.{Entered}
+use Rattle.supers.specs.declared.path.Entered.the-variants.{Up, Deep, Spent, Hit, Miss}
 
 -- The class of frame j.
 unfoldable pub classIn : List ℕ → ℕ → ℕ → ℕ

@@ -4,7 +4,7 @@ use mathlib.Core.Bool.{false}
 use mathlib.Core.List.{List, [], _∷_}
 use Prim.Native.Nat.{ℕ, suc, _+_, _<_, _≤_}
 use Rattle.meaning.specs.Base.{count}
-use Rattle.meaning.specs.Ast.{pred, Core}
+use Rattle.meaning.specs.Ast.{pred}
 use Rattle.meaning.specs.Classes.{Given}
 use Rattle.meaning.specs.Reduce.{roots, not-root}
 use Rattle.meaning.specs.Declare.{context-binders}

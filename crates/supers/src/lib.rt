@@ -1,11 +1,14 @@
 // The search of 001 over givens and their superclass entries: `by_super` as a walk, up to the first entry that is the goal.
+mod path;
+
 use ast::Cell;
 use errors::Refusal;
 use pairs::Found;
+use path::Entered;
 ghost use mathlib.Core.Path.{_≡_};
 ghost use mathlib.Core.Bool.{true, false};
 ghost use mathlib.Core.List.{_++_};
-ghost use Prim.Native.Nat.{ℕ, _+_, _*_, _-_, _<_, _≤_};
+ghost use Prim.Native.Nat.{_+_, _*_, _-_, _≤_};
 ghost use lib.ListN.{length};
 ghost use Rattle.meaning.specs.Ast.{pred};
 ghost use Rattle.meaning.specs.Classes.{from-givens, resolve-from-givens};
@@ -15,7 +18,6 @@ ghost use Rattle.ast.specs.Table.{tree, Node};
 ghost use Rattle.cores.specs.Binders.{bindersOf};
 ghost use Rattle.supers.specs.ClassTable.{superAt};
 ghost use Rattle.supers.specs.Givens.{givensOf, Few, GivenAt};
-ghost use Rattle.supers.specs.Frames.{Enters, Turns, Built};
 ghost use Rattle.supers.specs.Search.{hits, ReadySearch, GivesFound};
 
 // Whose dictionaries a list of givens names: the context of an instance of a class, or binders.
@@ -30,25 +32,12 @@ pub enum Given {
     Nothing,
 }
 
-// What comes of one entry: there is none left below the last frame; it lies too deep; no step is left for it; it is the
-// goal; it is not.
-pub enum Entered {
-    Up,
-    Deep,
-    Spent,
-    Hit,
-    Miss,
-}
-
 // A dictionary's word, the first free node and the steps left; the steps left; or a refusal with both.
 pub enum Searched {
     Found(usize, usize, usize),
     Nothing(usize),
     Refused(Refusal, usize, usize),
 }
-
-// How deep a walk may go.
-const DEPTH: usize = 256;
 
 // The i-th superclass of the class of name c.
 pub fn super_at(classes: &[u64], c: usize, i: usize) -> Found
@@ -99,92 +88,6 @@ pub fn given_at(
     }
 }
 
-// The entry of class s below d others takes a step, and a frame with none of its superclasses taken.
-fn enter(
-    base: &[u64],
-    work: &mut [u64],
-    sp: usize,
-    d: usize,
-    left: usize,
-    s: usize,
-    goal: usize,
-    same: bool,
-    barred: bool,
-) -> Entered
-    requires { ⌜ length (now base) + 8 * left + 2 * d ≤ sp ⌝ }
-    requires { ⌜ sp ≤ length (now base ++ now work) ⌝ }
-    ensures { λ r. ⌜ Enters (now (base .entry) ++ now (work .entry)) (now (base .entry) ++ now (work .exit)) sp d left s goal same barred r ⌝ }
-{
-    if d >= DEPTH {
-        return Entered::Deep;
-    }
-    if left == 0 {
-        return Entered::Spent;
-    }
-    let at = sp - 2 * (d + 1);
-    pairs::put(base, work, at, s);
-    pairs::put(base, work, at + 1, 0);
-    if barred {
-        return Entered::Miss;
-    }
-    if same {
-        if s == goal {
-            return Entered::Hit;
-        }
-    }
-    Entered::Miss
-}
-
-// The next superclass of the last of d frames is taken and entered.
-fn turn(
-    base: &[u64],
-    work: &mut [u64],
-    classes: &[u64],
-    sp: usize,
-    d: usize,
-    left: usize,
-    goal: usize,
-    same: bool,
-) -> Entered
-    requires { ⌜ 0 < d ⌝ }
-    requires { ⌜ length (now base) + 8 * left + 2 * d ≤ sp ⌝ }
-    requires { ⌜ sp ≤ length (now base ++ now work) ⌝ }
-    ensures { λ r. ⌜ Turns (now (classes .entry)) (now (base .entry) ++ now (work .entry)) (now (base .entry) ++ now (work .exit)) sp d left goal same r ⌝ }
-{
-    let at = sp - 2 * d;
-    let c = ast::index(base, work, at);
-    let i = ast::index(base, work, at + 1);
-    let f = super_at(classes, c, i);
-    match f {
-        Found::Nothing => Entered::Up,
-        Found::At(s) => {
-            pairs::put(base, work, at + 1, i + 1);
-            enter(base, work, sp, d, left, s, goal, same, false)
-        }
-    }
-}
-
-// The projections along the frames, from the dictionary e outward: one for each frame after the first.
-fn build(base: &[u64], work: &mut [u64], top: usize, sp: usize, d: usize, e: usize) -> usize
-    requires { ⌜ length (now base) ≤ 4 * top ⌝ }
-    requires { ⌜ 4 * top + 4 * d + 2 * d + 2 ≤ sp ⌝ }
-    requires { ⌜ sp ≤ length (now base ++ now work) ⌝ }
-    requires { ⌜ Node (now base ++ now work) top e ⌝ }
-    ensures { λ r. ⌜ Built (now (base .entry) ++ now (work .entry)) (now (base .entry) ++ now (work .exit)) top sp d e r ⌝ }
-{
-    let mut r = e;
-    let mut j: usize = 0;
-    while j < d {
-        let at = sp - 2 * (j + 2);
-        let s = ast::index(base, work, at);
-        let c = ast::index(base, work, at + 2);
-        cores::push_proj(base, work, top + j, r, c, s);
-        r = names::NODE + (top + j);
-        j += 1;
-    }
-    r
-}
-
 // The first entry of the givens' lists that is the goal, the class goal at the type t; where it must be proper, no given
 // itself. The frames of the walk lie below sp.
 pub fn search(
@@ -216,14 +119,14 @@ pub fn search(
             break 'givens Searched::Nothing(n);
         };
         let same = ast::same(base, work, names, top, u, t);
-        let mut r = enter(base, work, sp, 0, n, c, goal, same, proper);
+        let mut r = path::enter(base, work, sp, 0, n, c, goal, same, proper);
         let mut d: usize = 0;
         'walk: loop {
             match r {
                 Entered::Deep => break 'givens Searched::Refused(Refusal::Depth, top, n),
                 Entered::Spent => break 'givens Searched::Refused(Refusal::Steps, top, 0),
                 Entered::Hit => {
-                    let p = build(base, work, top, sp, d, e);
+                    let p = path::build(base, work, top, sp, d, e);
                     break 'givens Searched::Found(p, top + d, n - 1);
                 }
                 Entered::Miss => {
@@ -237,7 +140,7 @@ pub fn search(
             if d == 0 {
                 break 'walk;
             }
-            r = turn(base, work, classes, sp, d, n, goal, same);
+            r = path::turn(base, work, classes, sp, d, n, goal, same);
         }
         g = rest;
         i += 1;

@@ -5,8 +5,8 @@ use native.Mathlib.Omega.{arith}
 use Rattle.pairs.proofs.Frames.{long}
 use Rattle.ast.proofs.Join.{joined}
 use Rattle.supers.proofs.Building.{Building, building, building-on, built}
-use Rattle.supers.proofs.build.Statement.{statement}
-use Rattle.supers.proofs.build.Tie as tie
+use Rattle.supers.proofs.path.build.Statement.{statement}
+use Rattle.supers.proofs.path.build.Tie as tie
 
 abbrev Inv-loop : tie.InvT-loop
 Inv-loop base work₀ top sp d e r₀ j₀ work r j = Building (base ++ work₀) top sp d e (base ++ work) r j

@@ -3,8 +3,8 @@ use native.Mathlib.Omega.{arith}
 use Rattle.pairs.proofs.Frames.{long}
 use Rattle.supers.proofs.FrameLaws.{framed-is, not-both}
 use borrow.Author.Needs.{needs}
-use Rattle.supers.proofs.enter.Statement.{statement}
-use Rattle.supers.proofs.enter.Tie as tie
+use Rattle.supers.proofs.path.enter.Statement.{statement}
+use Rattle.supers.proofs.path.enter.Tie as tie
 
 returns : tie.Need-returns
 returns c = search needs

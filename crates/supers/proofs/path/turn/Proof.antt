@@ -6,8 +6,8 @@ use Rattle.pairs.proofs.Frames.{long}
 use Rattle.supers.proofs.ClassLaws.{at-inside}
 use Rattle.supers.proofs.FrameLaws.{turn-up, turn-took}
 use borrow.Author.Needs.{needs}
-use Rattle.supers.proofs.turn.Statement.{statement}
-use Rattle.supers.proofs.turn.Tie as tie
+use Rattle.supers.proofs.path.turn.Statement.{statement}
+use Rattle.supers.proofs.path.turn.Tie as tie
 
 mul-at : tie.Need-mul-at
 mul-at c = search needs
