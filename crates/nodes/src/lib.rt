@@ -77,8 +77,9 @@ pub fn one_of(src: &[u8], at: usize, n: Counts, of: Section) -> Place
 }
 
 // The number of a name, which must not have the form that is reserved for this use.
-pub fn name_for(src: &[u8], index: &[u64; 10752], at: usize, n: Counts, u: Use) -> Place
+pub fn name_for(src: &[u8], index: &[u64], at: usize, n: Counts, u: Use) -> Place
     requires { ⌜ n .names ≤ 1024 ⌝ }
+    requires { ⌜ 2048 ≤ length (now index) ⌝ }
     ensures { λ r. ⌜ Gives (Known (now (index .entry)) n) (now (src .entry)) (λ s. name-for u s) at r ⌝ }
 {
     let p = reader::pick(src, at, n.names);
@@ -106,8 +107,9 @@ pub fn two(src: &[u8], at: usize, n: Counts, a: Section, b: Section) -> Place
 }
 
 // A name that the script uses, and a number.
-pub fn worded(src: &[u8], index: &[u64; 10752], at: usize, n: Counts, of: Section) -> Place
+pub fn worded(src: &[u8], index: &[u64], at: usize, n: Counts, of: Section) -> Place
     requires { ⌜ n .names ≤ 1024 ⌝ }
+    requires { ⌜ 2048 ≤ length (now index) ⌝ }
     ensures { λ r. ⌜ Gives (Known (now (index .entry)) n) (now (src .entry)) (λ s. R.pair (F.word (s .names)) (R.one-of (things of s))) at r ⌝ }
 {
     let p = name_for(src, index, at, n, Use::Word);
@@ -118,8 +120,9 @@ pub fn worded(src: &[u8], index: &[u64; 10752], at: usize, n: Counts, of: Sectio
 }
 
 // One item of a list.
-fn item(src: &[u8], index: &[u64; 10752], at: usize, n: Counts, k: Row) -> Place
+fn item(src: &[u8], index: &[u64], at: usize, n: Counts, k: Row) -> Place
     requires { ⌜ n .names ≤ 1024 ⌝ }
+    requires { ⌜ 2048 ≤ length (now index) ⌝ }
     ensures { λ r. ⌜ Gives (Known (now (index .entry)) n) (now (src .entry)) (λ s. row-reader k s) at r ⌝ }
 {
     match k {
@@ -132,8 +135,9 @@ fn item(src: &[u8], index: &[u64; 10752], at: usize, n: Counts, k: Row) -> Place
 }
 
 // So many items of a list.
-fn rows(src: &[u8], index: &[u64; 10752], at: usize, n: Counts, k: Row, m: usize) -> Place
+fn rows(src: &[u8], index: &[u64], at: usize, n: Counts, k: Row, m: usize) -> Place
     requires { ⌜ n .names ≤ 1024 ⌝ }
+    requires { ⌜ 2048 ≤ length (now index) ⌝ }
     requires { ⌜ at ≤ length (now src) ⌝ }
     ensures { λ r. ⌜ Gives (Known (now (index .entry)) n) (now (src .entry)) (λ s. R.items (λ xs. row-reader k s) m []) at r ⌝ }
 {
@@ -155,8 +159,9 @@ fn rows(src: &[u8], index: &[u64; 10752], at: usize, n: Counts, k: Row, m: usize
 }
 
 // A list: its count, at most 64, then its items.
-pub fn list(src: &[u8], index: &[u64; 10752], at: usize, n: Counts, k: Row) -> Place
+pub fn list(src: &[u8], index: &[u64], at: usize, n: Counts, k: Row) -> Place
     requires { ⌜ n .names ≤ 1024 ⌝ }
+    requires { ⌜ 2048 ≤ length (now index) ⌝ }
     ensures { λ r. ⌜ Gives (Known (now (index .entry)) n) (now (src .entry)) (λ s. R.list-of (row-reader k s)) at r ⌝ }
 {
     let c = reader::counted(src, at, 64);
@@ -167,8 +172,9 @@ pub fn list(src: &[u8], index: &[u64; 10752], at: usize, n: Counts, k: Row) -> P
 }
 
 // Two lists, one after the other.
-fn lists(src: &[u8], index: &[u64; 10752], at: usize, n: Counts, a: Row, b: Row) -> Place
+fn lists(src: &[u8], index: &[u64], at: usize, n: Counts, a: Row, b: Row) -> Place
     requires { ⌜ n .names ≤ 1024 ⌝ }
+    requires { ⌜ 2048 ≤ length (now index) ⌝ }
     ensures { λ r. ⌜ Gives (Known (now (index .entry)) n) (now (src .entry)) (λ s. R.pair (R.list-of (row-reader a s)) (R.list-of (row-reader b s))) at r ⌝ }
 {
     let p = list(src, index, at, n, a);
@@ -179,8 +185,9 @@ fn lists(src: &[u8], index: &[u64; 10752], at: usize, n: Counts, a: Row, b: Row)
 }
 
 // A constructor's name and its arguments.
-fn constructor(src: &[u8], index: &[u64; 10752], at: usize, n: Counts) -> Place
+fn constructor(src: &[u8], index: &[u64], at: usize, n: Counts) -> Place
     requires { ⌜ n .names ≤ 1024 ⌝ }
+    requires { ⌜ 2048 ≤ length (now index) ⌝ }
     ensures { λ r. ⌜ Gives (Known (now (index .entry)) n) (now (src .entry)) (λ s. F.con-node (s .names) (s .types)) at r ⌝ }
 {
     let p = one_of(src, at, n, Section::Names);
@@ -191,8 +198,9 @@ fn constructor(src: &[u8], index: &[u64; 10752], at: usize, n: Counts) -> Place
 }
 
 // Types: tag byte 0 Var; 1 Con; 2 Arrow.
-pub fn type_node(src: &[u8], index: &[u64; 10752], at: usize, n: Counts) -> Place
+pub fn type_node(src: &[u8], index: &[u64], at: usize, n: Counts) -> Place
     requires { ⌜ n .names ≤ 1024 ⌝ }
+    requires { ⌜ 2048 ≤ length (now index) ⌝ }
     ensures { λ r. ⌜ Gives (Known (now (index .entry)) n) (now (src .entry)) (λ s. F.type-node (s .names) (s .types)) at r ⌝ }
 {
     let t = reader::byte(src, at);
@@ -241,8 +249,9 @@ fn bool(src: &[u8], at: usize) -> Place
 }
 
 // A let's name and its two expressions.
-fn binding(src: &[u8], index: &[u64; 10752], at: usize, n: Counts) -> Place
+fn binding(src: &[u8], index: &[u64], at: usize, n: Counts) -> Place
     requires { ⌜ n .names ≤ 1024 ⌝ }
+    requires { ⌜ 2048 ≤ length (now index) ⌝ }
     ensures { λ r. ⌜ Gives (Known (now (index .entry)) n) (now (src .entry)) (λ s. F.let-node (s .names) (s .exprs)) at r ⌝ }
 {
     let p = name_for(src, index, at, n, Use::Word);
@@ -253,8 +262,9 @@ fn binding(src: &[u8], index: &[u64; 10752], at: usize, n: Counts) -> Place
 }
 
 // Expressions: 0 Var; 1 Int; 2 Bool; 3 Abs; 4 App; 5 Let.
-pub fn expr_node(src: &[u8], index: &[u64; 10752], at: usize, n: Counts) -> Place
+pub fn expr_node(src: &[u8], index: &[u64], at: usize, n: Counts) -> Place
     requires { ⌜ n .names ≤ 1024 ⌝ }
+    requires { ⌜ 2048 ≤ length (now index) ⌝ }
     ensures { λ r. ⌜ Gives (Known (now (index .entry)) n) (now (src .entry)) (λ s. F.expr-node (s .names) (s .exprs)) at r ⌝ }
 {
     let t = reader::byte(src, at);
@@ -285,8 +295,9 @@ pub fn expr_node(src: &[u8], index: &[u64; 10752], at: usize, n: Counts) -> Plac
 }
 
 // A class's superclasses, signatures and defaults.
-fn class_body(src: &[u8], index: &[u64; 10752], at: usize, n: Counts) -> Place
+fn class_body(src: &[u8], index: &[u64], at: usize, n: Counts) -> Place
     requires { ⌜ n .names ≤ 1024 ⌝ }
+    requires { ⌜ 2048 ≤ length (now index) ⌝ }
     ensures { λ r. ⌜ Gives (Known (now (index .entry)) n) (now (src .entry)) (λ s. class-body s) at r ⌝ }
 {
     let p = list(src, index, at, n, Row::Super);
@@ -297,8 +308,9 @@ fn class_body(src: &[u8], index: &[u64; 10752], at: usize, n: Counts) -> Place
 }
 
 // A class's variable and all that follows it.
-fn class_rest(src: &[u8], index: &[u64; 10752], at: usize, n: Counts) -> Place
+fn class_rest(src: &[u8], index: &[u64], at: usize, n: Counts) -> Place
     requires { ⌜ n .names ≤ 1024 ⌝ }
+    requires { ⌜ 2048 ≤ length (now index) ⌝ }
     ensures { λ r. ⌜ Gives (Known (now (index .entry)) n) (now (src .entry)) (λ s. R.pair (F.variable (s .names)) (class-body s)) at r ⌝ }
 {
     let p = name_for(src, index, at, n, Use::Variable);
@@ -309,8 +321,9 @@ fn class_rest(src: &[u8], index: &[u64; 10752], at: usize, n: Counts) -> Place
 }
 
 // A class.
-fn class_entry(src: &[u8], index: &[u64; 10752], at: usize, n: Counts) -> Place
+fn class_entry(src: &[u8], index: &[u64], at: usize, n: Counts) -> Place
     requires { ⌜ n .names ≤ 1024 ⌝ }
+    requires { ⌜ 2048 ≤ length (now index) ⌝ }
     ensures { λ r. ⌜ Gives (Known (now (index .entry)) n) (now (src .entry)) (λ s. F.class-entry (s .names) (s .types) (s .exprs)) at r ⌝ }
 {
     let p = one_of(src, at, n, Section::Names);
@@ -321,8 +334,9 @@ fn class_entry(src: &[u8], index: &[u64; 10752], at: usize, n: Counts) -> Place
 }
 
 // An instance's head and methods.
-fn instance_body(src: &[u8], index: &[u64; 10752], at: usize, n: Counts) -> Place
+fn instance_body(src: &[u8], index: &[u64], at: usize, n: Counts) -> Place
     requires { ⌜ n .names ≤ 1024 ⌝ }
+    requires { ⌜ 2048 ≤ length (now index) ⌝ }
     ensures { λ r. ⌜ Gives (Known (now (index .entry)) n) (now (src .entry)) (λ s. instance-body s) at r ⌝ }
 {
     let p = two(src, at, n, Section::Names, Section::Types);
@@ -333,8 +347,9 @@ fn instance_body(src: &[u8], index: &[u64; 10752], at: usize, n: Counts) -> Plac
 }
 
 // An instance.
-fn instance_entry(src: &[u8], index: &[u64; 10752], at: usize, n: Counts) -> Place
+fn instance_entry(src: &[u8], index: &[u64], at: usize, n: Counts) -> Place
     requires { ⌜ n .names ≤ 1024 ⌝ }
+    requires { ⌜ 2048 ≤ length (now index) ⌝ }
     ensures { λ r. ⌜ Gives (Known (now (index .entry)) n) (now (src .entry)) (λ s. F.instance-entry (s .names) (s .types) (s .exprs)) at r ⌝ }
 {
     let p = list(src, index, at, n, Row::Context);
@@ -345,8 +360,9 @@ fn instance_entry(src: &[u8], index: &[u64; 10752], at: usize, n: Counts) -> Pla
 }
 
 // Declarations: 0 class; 1 instance; 2 let; 3 check.
-pub fn decl_entry(src: &[u8], index: &[u64; 10752], at: usize, n: Counts) -> Place
+pub fn decl_entry(src: &[u8], index: &[u64], at: usize, n: Counts) -> Place
     requires { ⌜ n .names ≤ 1024 ⌝ }
+    requires { ⌜ 2048 ≤ length (now index) ⌝ }
     ensures { λ r. ⌜ Gives (Known (now (index .entry)) n) (now (src .entry)) (λ s. F.decl-entry (s .names) (s .types) (s .exprs)) at r ⌝ }
 {
     let t = reader::byte(src, at);

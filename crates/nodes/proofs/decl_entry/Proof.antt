@@ -27,7 +27,7 @@ enum-known-t c = search needs
 
 -- src/lib.rt:357:48
 add-class-entry : tie.Need-add-class-entry
-add-class-entry c = let f = rw (c .before .before .t .given .1) at (c .before .before .before .before .byte .ensures) in let w = f .is .1 in let l = c .before .before .before .before .before .before .good .0 .0 in omega arith
+add-class-entry c = let f = rw (c .before .before .t .given .1) at (c .before .before .before .before .byte .ensures) in let w = f .is .1 in let l = c .before .before .before .before .before .before .before .good .0 .0 in omega arith
 
 -- src/lib.rt:357:17
 class-entry-requires : tie.Need-class-entry-requires
@@ -39,7 +39,7 @@ returns c = decl-class _ _ _ _ _ (rw (c .before .before .before .t .given .1) at
 
 -- src/lib.rt:360:51
 add-instance-entry : tie.Need-add-instance-entry
-add-instance-entry c = let f = rw (c .before .before .before .t .given .1) at (c .before .before .before .before .before .byte .ensures) in let w = f .is .1 in let l = c .before .before .before .before .before .before .before .good .0 .0 in omega arith
+add-instance-entry c = let f = rw (c .before .before .before .t .given .1) at (c .before .before .before .before .before .byte .ensures) in let w = f .is .1 in let l = c .before .before .before .before .before .before .before .before .good .0 .0 in omega arith
 
 -- src/lib.rt:360:17
 instance-entry-requires : tie.Need-instance-entry-requires
@@ -51,7 +51,7 @@ returns-2 c = decl-instance _ _ _ _ _ (rw (c .before .before .before .before .t 
 
 -- src/lib.rt:363:43
 add-worded : tie.Need-add-worded
-add-worded c = let f = rw (c .before .before .before .before .t .given .1) at (c .before .before .before .before .before .before .byte .ensures) in let w = f .is .1 in let l = c .before .before .before .before .before .before .before .before .good .0 .0 in omega arith
+add-worded c = let f = rw (c .before .before .before .before .t .given .1) at (c .before .before .before .before .before .before .byte .ensures) in let w = f .is .1 in let l = c .before .before .before .before .before .before .before .before .before .good .0 .0 in omega arith
 
 -- src/lib.rt:363:17
 worded-requires : tie.Need-worded-requires
@@ -63,7 +63,7 @@ returns-3 c = decl-let _ _ _ _ _ (rw (c .before .before .before .before .before 
 
 -- src/lib.rt:366:36
 add-one-of : tie.Need-add-one-of
-add-one-of c = let f = rw (c .before .before .before .before .before .t .given .1) at (c .before .before .before .before .before .before .before .byte .ensures) in let w = f .is .1 in let l = c .before .before .before .before .before .before .before .before .before .good .0 .0 in omega arith
+add-one-of c = let f = rw (c .before .before .before .before .before .t .given .1) at (c .before .before .before .before .before .before .before .byte .ensures) in let w = f .is .1 in let l = c .before .before .before .before .before .before .before .before .before .before .good .0 .0 in omega arith
 
 -- src/lib.rt:366:17
 one-of-requires : tie.Need-one-of-requires

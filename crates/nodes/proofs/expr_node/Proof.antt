@@ -29,7 +29,7 @@ enum-known-t c = search needs
 
 -- src/lib.rt:265:45
 add-name-for : tie.Need-add-name-for
-add-name-for c = let f = rw (c .before .before .t .given .1) at (c .before .before .before .before .byte .ensures) in let w = f .is .1 in let l = c .before .before .before .before .before .before .good .0 .0 in omega arith
+add-name-for c = let f = rw (c .before .before .t .given .1) at (c .before .before .before .before .byte .ensures) in let w = f .is .1 in let l = c .before .before .before .before .before .before .before .good .0 .0 in omega arith
 
 -- src/lib.rt:265:17
 name-for-requires : tie.Need-name-for-requires
@@ -41,7 +41,7 @@ returns c = expr-var _ _ _ _ _ (rw (c .before .before .before .t .given .1) at (
 
 -- src/lib.rt:268:33
 add-int : tie.Need-add-int
-add-int c = let f = rw (c .before .before .before .t .given .1) at (c .before .before .before .before .before .byte .ensures) in let w = f .is .1 in let l = c .before .before .before .before .before .before .before .good .0 .0 in omega arith
+add-int c = let f = rw (c .before .before .before .t .given .1) at (c .before .before .before .before .before .byte .ensures) in let w = f .is .1 in let l = c .before .before .before .before .before .before .before .before .good .0 .0 in omega arith
 
 -- src/lib.rt:268:17
 int-requires : tie.Need-int-requires
@@ -53,7 +53,7 @@ returns-2 c = expr-int _ _ _ _ _ (rw (c .before .before .before .before .t .give
 
 -- src/lib.rt:271:34
 add-bool : tie.Need-add-bool
-add-bool c = let f = rw (c .before .before .before .before .t .given .1) at (c .before .before .before .before .before .before .byte .ensures) in let w = f .is .1 in let l = c .before .before .before .before .before .before .before .before .good .0 .0 in omega arith
+add-bool c = let f = rw (c .before .before .before .before .t .given .1) at (c .before .before .before .before .before .before .byte .ensures) in let w = f .is .1 in let l = c .before .before .before .before .before .before .before .before .before .good .0 .0 in omega arith
 
 -- src/lib.rt:271:17
 bool-requires : tie.Need-bool-requires
@@ -65,7 +65,7 @@ returns-3 c = expr-bool _ _ _ _ _ (rw (c .before .before .before .before .before
 
 -- src/lib.rt:274:43
 add-worded : tie.Need-add-worded
-add-worded c = let f = rw (c .before .before .before .before .before .t .given .1) at (c .before .before .before .before .before .before .before .byte .ensures) in let w = f .is .1 in let l = c .before .before .before .before .before .before .before .before .before .good .0 .0 in omega arith
+add-worded c = let f = rw (c .before .before .before .before .before .t .given .1) at (c .before .before .before .before .before .before .before .byte .ensures) in let w = f .is .1 in let l = c .before .before .before .before .before .before .before .before .before .before .good .0 .0 in omega arith
 
 -- src/lib.rt:274:17
 worded-requires : tie.Need-worded-requires
@@ -77,7 +77,7 @@ returns-4 c = expr-abs _ _ _ _ _ (rw (c .before .before .before .before .before 
 
 -- src/lib.rt:277:33
 add-two : tie.Need-add-two
-add-two c = let f = rw (c .before .before .before .before .before .before .t .given .1) at (c .before .before .before .before .before .before .before .before .byte .ensures) in let w = f .is .1 in let l = c .before .before .before .before .before .before .before .before .before .before .good .0 .0 in omega arith
+add-two c = let f = rw (c .before .before .before .before .before .before .t .given .1) at (c .before .before .before .before .before .before .before .before .byte .ensures) in let w = f .is .1 in let l = c .before .before .before .before .before .before .before .before .before .before .before .good .0 .0 in omega arith
 
 -- src/lib.rt:277:17
 two-requires : tie.Need-two-requires
@@ -89,7 +89,7 @@ returns-5 c = expr-app _ _ _ _ _ (rw (c .before .before .before .before .before 
 
 -- src/lib.rt:280:44
 add-binding : tie.Need-add-binding
-add-binding c = let f = rw (c .before .before .before .before .before .before .before .t .given .1) at (c .before .before .before .before .before .before .before .before .before .byte .ensures) in let w = f .is .1 in let l = c .before .before .before .before .before .before .before .before .before .before .before .good .0 .0 in omega arith
+add-binding c = let f = rw (c .before .before .before .before .before .before .before .t .given .1) at (c .before .before .before .before .before .before .before .before .before .byte .ensures) in let w = f .is .1 in let l = c .before .before .before .before .before .before .before .before .before .before .before .before .good .0 .0 in omega arith
 
 -- src/lib.rt:280:17
 binding-requires : tie.Need-binding-requires

@@ -19,11 +19,11 @@ enum-known-c c = search needs
 
 -- src/lib.rt:164:42
 add-rows : tie.Need-add-rows
-add-rows c = let p = rw (c .before .c .given .1) at (c .before .before .before .counted .ensures) in let w = p .is .2 in let l = c .before .before .before .before .before .good .0 .0 in omega arith
+add-rows c = let p = rw (c .before .c .given .1) at (c .before .before .before .counted .ensures) in let w = p .is .2 in let l = c .before .before .before .before .before .before .good .0 .0 in omega arith
 
 -- src/lib.rt:164:25
 rows-requires : tie.Need-rows-requires
-rows-requires c κs = let p = rw (c .before .c .given .1) at (c .before .before .before .counted .ensures) in (c .before .before .before .before .before .pre, p .is .2)
+rows-requires c κs = let p = rw (c .before .c .given .1) at (c .before .before .before .counted .ensures) in (c .before .before .before .before .before .before .pre .0, (c .before .before .before .before .before .before .pre .1, p .is .2))
 
 -- src/lib.rt:165:20
 enum-known-c-2 : tie.Need-enum-known-c-2

@@ -19,7 +19,7 @@ abbrev μ-loop : tie.MeasureT-loop
 
 -- src/lib.rt:142:5
 loop-holds : tie.Need-loop-holds Inv-loop μ-loop
-loop-holds c = left-all _ _ _ _ _ (c .before .pre .1)
+loop-holds c = left-all _ _ _ _ _ (c .before .before .pre .1 .1)
 
 -- src/lib.rt:143:13
 item-requires : tie.Need-item-requires Inv-loop μ-loop

@@ -26,7 +26,7 @@ enum-known-t c = search needs
 
 -- src/lib.rt:203:45
 add-name-for : tie.Need-add-name-for
-add-name-for c = let f = rw (c .before .before .t .given .1) at (c .before .before .before .before .byte .ensures) in let w = f .is .1 in let l = c .before .before .before .before .before .before .good .0 .0 in omega arith
+add-name-for c = let f = rw (c .before .before .t .given .1) at (c .before .before .before .before .byte .ensures) in let w = f .is .1 in let l = c .before .before .before .before .before .before .before .good .0 .0 in omega arith
 
 -- src/lib.rt:203:17
 name-for-requires : tie.Need-name-for-requires
@@ -38,7 +38,7 @@ returns c = type-var _ _ _ _ _ (rw (c .before .before .before .t .given .1) at (
 
 -- src/lib.rt:206:48
 add-constructor : tie.Need-add-constructor
-add-constructor c = let f = rw (c .before .before .before .t .given .1) at (c .before .before .before .before .before .byte .ensures) in let w = f .is .1 in let l = c .before .before .before .before .before .before .before .good .0 .0 in omega arith
+add-constructor c = let f = rw (c .before .before .before .t .given .1) at (c .before .before .before .before .before .byte .ensures) in let w = f .is .1 in let l = c .before .before .before .before .before .before .before .before .good .0 .0 in omega arith
 
 -- src/lib.rt:206:17
 constructor-requires : tie.Need-constructor-requires
@@ -50,7 +50,7 @@ returns-2 c = type-con _ _ _ _ _ (rw (c .before .before .before .before .t .give
 
 -- src/lib.rt:209:33
 add-two : tie.Need-add-two
-add-two c = let f = rw (c .before .before .before .before .t .given .1) at (c .before .before .before .before .before .before .byte .ensures) in let w = f .is .1 in let l = c .before .before .before .before .before .before .before .before .good .0 .0 in omega arith
+add-two c = let f = rw (c .before .before .before .before .t .given .1) at (c .before .before .before .before .before .before .byte .ensures) in let w = f .is .1 in let l = c .before .before .before .before .before .before .before .before .before .good .0 .0 in omega arith
 
 -- src/lib.rt:209:17
 two-requires : tie.Need-two-requires
