@@ -83,7 +83,7 @@ one-spelled k n e r h s p = go (s .fuel) (s .enough) (s .long) (s .spelled)
     }
 
 -- The number of a key whose first word is zero.
-alone : (k : Key) → k .over ≡ 0 → keyNumber k ≡ bytesOf k
+pub alone : (k : Key) → k .over ≡ 0 → keyNumber k ≡ bytesOf k
 unfolding keyNumber bytesOf
 alone k h = rw h (go (2 ^ 256) (bytesOf k))
   where
