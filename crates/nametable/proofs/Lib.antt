@@ -1,0 +1,6 @@
+-- Laws of rows and of their names; the built-in names; one name; the loops; the whole table.
+pub mod Cells
+pub mod Listed
+pub mod Start
+pub mod Entry
+pub mod Taking
