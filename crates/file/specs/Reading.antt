@@ -13,8 +13,8 @@ use Rattle.names.specs.Names.{Names}
 use Rattle.nametable.specs.BuiltIns.{BuiltIns}
 use Rattle.nametable.specs.Tables.{NameKnown}
 use Rattle.sections.specs.Parts.{Placed}
-use Rattle.file.specs.declared.Reading as Code
-use Rattle.file.specs.declared.Reading.the-variants.{Good, Bad}
+use Rattle.body.specs.declared.Reading as Code
+use Rattle.body.specs.declared.Reading.the-variants.{Good, Bad}
 
 -- The items of a section, one after the other from a place on, each at its word of the index.
 pub record Places {A : Type 0} (bytes ix : List ℕ) (base : ℕ) (r : List A → Reader A) (xs : List A) : Type 0 where

@@ -363,7 +363,7 @@ fn bind_all(names: &mut [u64], index: &mut [u64], n: usize)
 }
 
 // Reads n names from a place on into a table that holds the built-in names.
-fn read_section(src: &[u8], names: &mut [u64], index: &mut [u64], at: usize, n: usize) -> Place
+pub fn read_section(src: &[u8], names: &mut [u64], index: &mut [u64], at: usize, n: usize) -> Place
     requires { ⌜ length (now names) ≡ 4236 ⌝ }
     requires { ⌜ length (now index) ≡ 10752 ⌝ }
     requires { ⌜ n ≤ 1024 ⌝ }

@@ -20,7 +20,7 @@ unfolding count
 count-length [] = refl
 count-length (x ∷ xs) = ap suc (count-length xs)
 
-getD-from : (at : ℕ) (bytes : List ℕ) → at < length bytes → from at bytes ≡ getD bytes at 0 ∷ from (at + 1) bytes
+pub getD-from : (at : ℕ) (bytes : List ℕ) → at < length bytes → from at bytes ≡ getD bytes at 0 ∷ from (at + 1) bytes
 unfolding from
 getD-from zero [] h = absurd (omega arith)
 getD-from zero (b ∷ bytes) h = refl
@@ -30,7 +30,7 @@ getD-from (suc at) (b ∷ bytes) h = getD-from at bytes (omega arith) ∙ ap (λ
     same : (at : ℕ) → suc (at + 1) ≡ suc at + 1
     same at = omega arith
 
-past-end : (at : ℕ) (bytes : List ℕ) → length bytes ≤ at → from at bytes ≡ []
+pub past-end : (at : ℕ) (bytes : List ℕ) → length bytes ≤ at → from at bytes ≡ []
 unfolding from
 past-end zero [] h = refl
 past-end zero (b ∷ bytes) h = absurd (omega arith)

@@ -129,7 +129,7 @@ module _ (bytes ix ix′ : List ℕ) (n : Counts) (k : Part) (at m : ℕ) (c : I
   pub section-read : (p : ℕ) → GivesItems bytes ix ix′ n k m (at + 2) (Next p) → GivesSection bytes ix ix′ n k at (Many-Read m p)
   unfolding section onward
   section-read p g = record { low = g .low; high = λ j h. g .high j (let l = c .is .1 in omega arith); is = λ s h. let o = g .is s h in
-      (o .0, ap (λ q. onward q (λ j. items (part-reader k s) j [])) (c .is .0) ∙ o .1, o .2, o .3, o .4) }
+      (o .0, ap (λ q. onward q (λ j. items (part-reader k s) j [])) (c .is .0) ∙ o .1, o .2, c .is .1, o .3, o .4) }
 
   pub section-stops : (e : Refusal) → GivesItems bytes ix ix′ n k m (at + 2) (Bad e) → GivesSection bytes ix ix′ n k at (Many-Bad e)
   unfolding section onward

@@ -86,3 +86,8 @@ placed-more bytes ix ix′ base r xs x at p q h old new e = record {
         (moved bytes r x xs (upto j (xs ++ x ∷ [])) p _ q _
         (sym (upto-all xs) ∙ ap (λ m. upto m xs) (sym (i .0)) ∙ sym (upto-snoc j xs x (omega (arith, i .0))))
         (sym (h .last) ∙ ap (h .begins) (sym (i .0)) ∙ sym (before j (omega (arith, i .0)))) (sym (ends-last n q (h .begins) (suc j) (ap suc (i .0)))) e)
+
+-- The same items in an index that has the same words for them.
+pub placed-kept : {A : Type 0} (bytes ix ix′ : List ℕ) (base : ℕ) (r : List A → Reader A) (xs : List A) (at end : ℕ) → ((j : ℕ) → j < count xs → getD ix′ (base + j) 0 ≡ getD ix (base + j) 0)
+    → Placed bytes ix base r xs at end → Placed bytes ix′ base r xs at end
+placed-kept bytes ix ix′ base r xs at end h p = record { begins = p .begins; first = p .first; last = p .last; word = λ i l. h i l ∙ p .word i l; item = p .item }

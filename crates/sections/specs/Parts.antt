@@ -76,7 +76,7 @@ pub record GivesItems (bytes ix ix′ : List ℕ) (n : Counts) (k : Part) (m at 
 -- A section: its count, then its items.
 abbrev pub SectionAs : {A : Type 0} → List ℕ → List ℕ → ℕ → (List A → Reader A) → ℕ → ℕ → Many → Type 0
 SectionAs {A = A} bytes ix base r most at (Many-Read m p) =
-    (xs : List A) × (section most r at (from at bytes) ≡ got xs p (from p bytes)) × (count xs ≡ m) × (p ≤ length bytes) × Placed bytes ix base r xs (at + 2) p
+    (xs : List A) × (section most r at (from at bytes) ≡ got xs p (from p bytes)) × (count xs ≡ m) × (m ≤ most) × (p ≤ length bytes) × Placed bytes ix base r xs (at + 2) p
 SectionAs bytes ix base r most at (Many-Bad e) = section most r at (from at bytes) ≡ bad (refusalOf [] [] e)
 
 pub record GivesSection (bytes ix ix′ : List ℕ) (n : Counts) (k : Part) (at : ℕ) (r : Many) : Type 0 where

@@ -11,8 +11,8 @@ use Rattle.errors.specs.Refusals.{refusalOf}
 use Rattle.nodes.specs.declared.Counts.{Counts}
 use Rattle.nodes.specs.Known.{Before, Known}
 use Rattle.sections.specs.Parts.{Placed}
-use Rattle.file.specs.declared.Reading as Code
-use Rattle.file.specs.declared.Reading.the-variants.{Good, Bad}
+use Rattle.body.specs.declared.Reading as Code
+use Rattle.body.specs.declared.Reading.the-variants.{Good, Bad}
 
 -- What stands before, with these types or expressions.
 abbrev pub with-types : Before → List Ty → Before
