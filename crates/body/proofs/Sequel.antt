@@ -25,7 +25,7 @@ use Rattle.body.specs.declared.Reading.the-variants.{Good, Bad}
 use Rattle.body.specs.Tails.{with-types, with-exprs, after-exprs, after-types, after-names, Declarations, Expressions, Types, DeclsAs, ExprsAs, TypesAs, GivesTail}
 
 -- A reader goes on after what was read.
-goes-on : {A B : Type 0} (o : Read A) (f : A → Reader B) (a : A) (p : ℕ) (bs : List ℕ) → o ≡ got a p bs → onward o f ≡ f a p bs
+pub goes-on : {A B : Type 0} (o : Read A) (f : A → Reader B) (a : A) (p : ℕ) (bs : List ℕ) → o ≡ got a p bs → onward o f ≡ f a p bs
 unfolding onward
 goes-on o f a p bs e = ap (λ q. onward q f) e
 
