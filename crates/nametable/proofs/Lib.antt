@@ -4,3 +4,6 @@ pub mod Listed
 pub mod Start
 pub mod Entry
 pub mod Taking
+pub mod Going
+pub mod Numbers
+pub mod Whole

@@ -16,7 +16,7 @@ ghost use Rattle.meaning.specs.Ast.{name};
 ghost use Rattle.names.specs.Names.{row};
 ghost use Rattle.names.specs.Keys.{bytesOf};
 ghost use Rattle.nametable.specs.BuiltIns.{built-ins, First};
-ghost use Rattle.nametable.specs.Rows.{rowSet, RowIs, namesFrom, Filled, IsBuilt, Words};
+ghost use Rattle.nametable.specs.Rows.{rowSet, RowIs, namesFrom, Filled, IsBuilt};
 ghost use Rattle.nametable.specs.Entries.{among, Spotted, Coded, Entered, Taken};
 ghost use Rattle.nametable.specs.Tables.{ReadAll, Bound, AllBound, NamesRead};
 
@@ -112,14 +112,6 @@ fn word(names: &[u64], i: usize) -> u64
     ensures { λ w. ⌜ w ≡ getD (now (names .entry)) i 0 ⌝ }
 {
     names[i]
-}
-
-// The words of a table are words; no code is needed for that.
-fn words(names: &[u64])
-    requires { ⌜ 0 < length (now names) ⌝ }
-    ensures { λ _. ⌜ Words (now (names .entry)) ⌝ }
-{
-    let _w = word(names, 0);
 }
 
 // Writes a row.
@@ -376,12 +368,17 @@ pub fn read_section(src: &[u8], names: &mut [u64], index: &mut [u64], at: usize,
         return r;
     };
     bind_all(names, index, n);
-    words(names);
     Place::Next(p)
 }
 
 // Reads the n names of the names section from a place on: the table of names, and of each name its number and its form.
-pub fn read_names(src: &[u8], names: &mut [u64; 4236], index: &mut [u64; 10752], at: usize, n: usize) -> Place
+pub fn read_names(
+    src: &[u8],
+    names: &mut [u64; 4236],
+    index: &mut [u64; 10752],
+    at: usize,
+    n: usize,
+) -> Place
     requires { ⌜ n ≤ 1024 ⌝ }
     requires { ⌜ at ≤ length (now src) ⌝ }
     ensures { λ r. ⌜ NamesRead (now (src .entry)) (now (index .entry)) (now (names .exit)) (now (index .exit)) at n r ⌝ }

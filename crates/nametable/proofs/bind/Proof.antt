@@ -1,92 +1,69 @@
+-- `nametable::bind` meets its contract. Assumes nothing.
+use native.Mathlib.Omega.{arith}
+use Rattle.nametable.proofs.Numbers.{own-number, built-number}
 use borrow.Author.Needs.{needs}
 use Rattle.nametable.proofs.bind.Statement.{statement}
 use Rattle.nametable.proofs.bind.Tie as tie
-use Rattle.nametable.proofs.bind.Reads as reads
-use Rattle.nametable.proofs.bind.Lts as lts
-use Rattle.nametable.proofs.built_in.Reads as built-in-reads
-use Rattle.nametable.proofs.first_key.Reads as first-key-reads
-use Rattle.nametable.proofs.put_row.Reads as put-row-reads
-use Rattle.nametable.proofs.row_key.Reads as row-key-reads
 
--- src/lib.rt:340:28
 add-row-key : tie.Need-add-row-key
 add-row-key c = search needs
 
--- src/lib.rt:340:9
 row-key-requires : tie.Need-row-key-requires
 row-key-requires c κs = search needs
 
--- src/lib.rt:341:9
 built-in-requires : tie.Need-built-in-requires
 built-in-requires c κs = search needs
 
--- src/lib.rt:342:19
 enum-known-b : tie.Need-enum-known-b
 enum-known-b c = search needs
 
--- src/lib.rt:343:21
 enum-told : tie.Need-enum-told
 enum-told c = search needs
 
--- src/lib.rt:343:21
 add-index : tie.Need-add-index
 add-index c = search needs
 
--- src/lib.rt:343:9
 mul-index : tie.Need-mul-index
 mul-index c = search needs
 
--- src/lib.rt:343:9
 slice-write-index : tie.Need-slice-write-index
 slice-write-index c = search needs
 
--- src/lib.rt:344:9
 same-length : tie.Need-same-length
 same-length c = search needs
 
--- src/lib.rt:344:9
 same-length-2 : tie.Need-same-length-2
 same-length-2 c = search needs
 
--- src/lib.rt:344:9
 returns : tie.Need-returns
-returns c = ?
+returns c = own-number _ _ _ _ _ (omega arith) (c .before .before .before .before .row-key .ensures) (c .before .before .built-in .ensures) (c .enum-told .given .1)
 
--- src/lib.rt:346:5
 mul-index-2 : tie.Need-mul-index-2
 mul-index-2 c = search needs
 
--- src/lib.rt:346:5
 slice-write-index-2 : tie.Need-slice-write-index-2
 slice-write-index-2 c = search needs
 
--- src/lib.rt:347:25
 add-first-key : tie.Need-add-first-key
 add-first-key c = search needs
 
--- src/lib.rt:347:9
 first-key-requires : tie.Need-first-key-requires
 first-key-requires c κs = search needs
 
--- src/lib.rt:348:20
 add-put-row : tie.Need-add-put-row
 add-put-row c = search needs
 
--- src/lib.rt:348:5
 put-row-requires : tie.Need-put-row-requires
 put-row-requires c κs = search needs
 
--- src/lib.rt:335:1
 same-length-3 : tie.Need-same-length-3
 same-length-3 c = search needs
 
--- src/lib.rt:335:1
 same-length-4 : tie.Need-same-length-4
 same-length-4 c = search needs
 
--- src/lib.rt:335:1
 returns-2 : tie.Need-returns-2
-returns-2 c = ?
+returns-2 c = built-number _ _ _ _ _ _ _ _ (omega arith) (omega arith) (c .before .before .before .before .before .before .before .before .before .before .row-key .ensures) (c .before .before .before .before .before .before .before .before .built-in .ensures) (c .before .before .before .before .before .before .b .given .1) (c .before .before .before .before .first-key .ensures) (c .before .before .put-row .ensures)
 
 pub bind-spec : {M : Type 1} → statement M
 bind-spec =

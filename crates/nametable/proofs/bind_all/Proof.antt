@@ -1,46 +1,39 @@
+-- `nametable::bind_all` meets its contract. The loop's invariant: the first i names have their numbers. Assumes nothing.
+use Prim.Native.Nat.{_-_}
+use native.Mathlib.Omega.{arith}
+use Rattle.nametable.proofs.Numbers.{Binding, none-bound, one-bound, all-bound}
 use Rattle.nametable.proofs.bind_all.Statement.{statement}
 use Rattle.nametable.proofs.bind_all.Tie as tie
-use Rattle.nametable.proofs.bind_all.Reads as reads
-use Rattle.nametable.proofs.bind_all.Lts as lts
-use Rattle.nametable.proofs.bind.Reads as bind-reads
 
 abbrev Inv-loop : tie.InvT-loop
-Inv-loop names₀ index₀ n i₀ names index i = ?
+Inv-loop names₀ index₀ n i₀ names index i = Binding names₀ index₀ names index n i
 
 abbrev μ-loop : tie.MeasureT-loop
-μ-loop names₀ index₀ n i₀ names index i = ?
+μ-loop names₀ index₀ n i₀ names index i = n - i
 
--- src/lib.rt:359:5
 loop-holds : tie.Need-loop-holds Inv-loop μ-loop
-loop-holds c = ?
+loop-holds c = none-bound _ _ _ (omega arith) (omega arith)
 
--- src/lib.rt:360:9
 bind-requires : tie.Need-bind-requires Inv-loop μ-loop
-bind-requires c κs = ?
+bind-requires c κs = (omega (arith, c .before .before .before .loop .inv .names-length), omega (arith, c .before .before .before .loop .inv .index-length))
 
--- src/lib.rt:361:9
 add-i : tie.Need-add-i Inv-loop μ-loop
-add-i c = ?
+add-i c = omega arith
 
--- src/lib.rt:359:5
 loop-less : tie.Need-loop-less Inv-loop μ-loop
-loop-less c = ?
+loop-less c = omega arith
 
--- src/lib.rt:359:5
 loop-again : tie.Need-loop-again Inv-loop μ-loop
-loop-again c = ?
+loop-again c = one-bound (c .before .before .before .before .before .before .before .before .loop .inv) (c .before .before .before .before .before .before .before .loop-test .taken) (c .before .before .before .before .bind .kept .0) (c .before .before .before .before .bind .kept .1 .0) (c .before .before .before .before .bind .ensures)
 
--- src/lib.rt:352:1
 same-length : tie.Need-same-length Inv-loop μ-loop
-same-length c = ?
+same-length c = omega (arith, c .before .loop .inv .names-length)
 
--- src/lib.rt:352:1
 same-length-2 : tie.Need-same-length-2 Inv-loop μ-loop
-same-length-2 c = ?
+same-length-2 c = omega (arith, c .before .loop .inv .index-length)
 
--- src/lib.rt:352:1
 returns : tie.Need-returns Inv-loop μ-loop
-returns c = ?
+returns c = all-bound (c .before .loop .inv) (omega arith)
 
 pub bind-all-spec : {M : Type 1} → statement M
 bind-all-spec =

@@ -8,9 +8,6 @@ use Rattle.names.specs.Keys.{bytesOf}
 use Rattle.theorems.proofs.Tests.{eqb-true, eqb-false}
 use Rattle.nametable.proofs.built_in.Statement.{statement}
 use Rattle.nametable.proofs.built_in.Tie as tie
-use Rattle.nametable.proofs.built_in.Reads as reads
-use Rattle.nametable.proofs.built_in.Lts as lts
-use Rattle.nametable.proofs.same_row.Reads as same-row-reads
 
 abbrev Inv-loop : tie.InvT-loop
 Inv-loop names k b₀ b = (j : ℕ) → j < b → row names j ≡ bytesOf k → ⊥
@@ -18,31 +15,24 @@ Inv-loop names k b₀ b = (j : ℕ) → j < b → row names j ≡ bytesOf k → 
 abbrev μ-loop : tie.MeasureT-loop
 μ-loop names k b₀ b = 35 - b
 
--- src/lib.rt:193:5
 loop-holds : tie.Need-loop-holds Inv-loop μ-loop
 loop-holds c = below-none _
 
--- src/lib.rt:194:12
 same-row-requires : tie.Need-same-row-requires Inv-loop μ-loop
 same-row-requires c κs = omega arith
 
--- src/lib.rt:195:13
 returns : tie.Need-returns Inv-loop μ-loop
 returns c = record { is = ((c .before .before .loop-test .taken), sym (eqb-true _ _ (sym (c .before .same-row .ensures) ∙ (c .if1 .taken)))) }
 
--- src/lib.rt:197:9
 add-b : tie.Need-add-b Inv-loop μ-loop
 add-b c = omega arith
 
--- src/lib.rt:193:5
 loop-less : tie.Need-loop-less Inv-loop μ-loop
 loop-less c = omega arith
 
--- src/lib.rt:193:5
 loop-again : tie.Need-loop-again Inv-loop μ-loop
 loop-again c = below-more _ _ (c .before .before .before .loop .inv) (λ e. eqb-false _ _ (sym (c .before .same-row .ensures) ∙ (c .if1 .left)) (sym e))
 
--- src/lib.rt:188:1
 returns-2 : tie.Need-returns-2 Inv-loop μ-loop
 returns-2 c = record { is = λ b h e. (c .before .loop .inv) b (omega arith) e }
 

@@ -3,34 +3,25 @@ use Rattle.nametable.proofs.Start.{first-words, built-key}
 use borrow.Author.Needs.{needs}
 use Rattle.nametable.proofs.built_in_key.Statement.{statement}
 use Rattle.nametable.proofs.built_in_key.Tie as tie
-use Rattle.nametable.proofs.built_in_key.Reads as reads
-use Rattle.nametable.proofs.built_in_key.Lts as lts
 
--- src/lib.rt:207:13
 mul-i : tie.Need-mul-i
 mul-i c = search needs
 
--- src/lib.rt:210:12
 mul-t4 : tie.Need-mul-t4
 mul-t4 c = search needs
 
--- src/lib.rt:210:12
 array-read-t7 : tie.Need-array-read-t7
 array-read-t7 c = search needs
 
--- src/lib.rt:211:22
 add-t9 : tie.Need-add-t9
 add-t9 c = search needs
 
--- src/lib.rt:211:12
 mul-t10 : tie.Need-mul-t10
 mul-t10 c = search needs
 
--- src/lib.rt:211:12
 array-read-t13 : tie.Need-array-read-t13
 array-read-t13 c = search needs
 
--- src/lib.rt:203:1
 returns : tie.Need-returns
 unfolding first-words
 returns c = built-key _ 0 (c .pre)

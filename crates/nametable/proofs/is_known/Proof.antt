@@ -4,9 +4,6 @@ use Rattle.names.specs.Keys.{bytesOf}
 use Rattle.nametable.proofs.Listed.{Searched, none-searched, one-searched, one-found, all-searched}
 use Rattle.nametable.proofs.is_known.Statement.{statement}
 use Rattle.nametable.proofs.is_known.Tie as tie
-use Rattle.nametable.proofs.is_known.Reads as reads
-use Rattle.nametable.proofs.is_known.Lts as lts
-use Rattle.nametable.proofs.same_row.Reads as same-row-reads
 
 abbrev Inv-loop : tie.InvT-loop
 Inv-loop names k m r₀ left₀ r left = Searched (bytesOf k) names m r left
@@ -14,35 +11,27 @@ Inv-loop names k m r₀ left₀ r left = Searched (bytesOf k) names m r left
 abbrev μ-loop : tie.MeasureT-loop
 μ-loop names k m r₀ left₀ r left = left
 
--- src/lib.rt:177:5
 loop-holds : tie.Need-loop-holds Inv-loop μ-loop
 loop-holds c = none-searched _ _ _
 
--- src/lib.rt:178:12
 same-row-requires : tie.Need-same-row-requires Inv-loop μ-loop
-same-row-requires c κs = omega (arith, (c .before .loop .inv .ends))
+same-row-requires c κs = omega (arith, c .before .loop .inv .ends)
 
--- src/lib.rt:179:13
 returns : tie.Need-returns Inv-loop μ-loop
 returns c = one-found (c .before .before .before .loop .inv) (omega arith) (c .before .same-row .ensures) (c .if1 .taken)
 
--- src/lib.rt:181:9
 add-r : tie.Need-add-r Inv-loop μ-loop
-add-r c = omega (arith, (c .before .before .before .loop .inv .ends))
+add-r c = omega (arith, c .before .before .before .loop .inv .ends)
 
--- src/lib.rt:182:9
 sub-left : tie.Need-sub-left Inv-loop μ-loop
 sub-left c = omega arith
 
--- src/lib.rt:177:5
 loop-less : tie.Need-loop-less Inv-loop μ-loop
 loop-less c = omega arith
 
--- src/lib.rt:177:5
 loop-again : tie.Need-loop-again Inv-loop μ-loop
 loop-again c = one-searched (c .before .before .before .loop .inv) (omega arith) (c .before .same-row .ensures) (c .if1 .left)
 
--- src/lib.rt:171:1
 returns-2 : tie.Need-returns-2 Inv-loop μ-loop
 returns-2 c = all-searched (c .before .loop .inv) (omega arith)
 

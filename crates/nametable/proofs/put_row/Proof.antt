@@ -6,62 +6,46 @@ use Rattle.nametable.specs.Rows.{rowSet}
 use borrow.Author.Needs.{needs}
 use Rattle.nametable.proofs.put_row.Statement.{statement}
 use Rattle.nametable.proofs.put_row.Tie as tie
-use Rattle.nametable.proofs.put_row.Reads as reads
-use Rattle.nametable.proofs.put_row.Lts as lts
 
--- src/lib.rt:130:13
 mul-i : tie.Need-mul-i
 mul-i c = search needs
 
--- src/lib.rt:131:5
 mul-names : tie.Need-mul-names
 mul-names c = search needs
 
--- src/lib.rt:131:5
 slice-write-names : tie.Need-slice-write-names
 slice-write-names c = search needs
 
--- src/lib.rt:132:11
 add-names : tie.Need-add-names
 add-names c = search needs
 
--- src/lib.rt:132:5
 mul-names-2 : tie.Need-mul-names-2
 mul-names-2 c = search needs
 
--- src/lib.rt:132:5
 slice-write-names-2 : tie.Need-slice-write-names-2
 slice-write-names-2 c = simp length-set (omega arith)
 
--- src/lib.rt:133:11
 add-names-2 : tie.Need-add-names-2
 add-names-2 c = search needs
 
--- src/lib.rt:133:5
 mul-names-3 : tie.Need-mul-names-3
 mul-names-3 c = search needs
 
--- src/lib.rt:133:5
 slice-write-names-3 : tie.Need-slice-write-names-3
 slice-write-names-3 c = simp length-set (omega arith)
 
--- src/lib.rt:134:11
 add-names-3 : tie.Need-add-names-3
 add-names-3 c = search needs
 
--- src/lib.rt:134:5
 mul-names-4 : tie.Need-mul-names-4
 mul-names-4 c = search needs
 
--- src/lib.rt:134:5
 slice-write-names-4 : tie.Need-slice-write-names-4
 slice-write-names-4 c = simp length-set (omega arith)
 
--- src/lib.rt:126:1
 same-length : tie.Need-same-length
 same-length c = search needs
 
--- src/lib.rt:126:1
 returns : tie.Need-returns
 unfolding rowSet
 returns c = refl

@@ -1,66 +1,56 @@
+-- `nametable::read_all` meets its contract. The loop's invariant: the first i names stand in their rows. Assumes nothing.
+use Prim.Native.Nat.{_-_}
+use mathlib.Core.Path.{_∙_}
+use native.Mathlib.Omega.{arith}
+use borrow.Author.Needs.{needs}
+use Rattle.nametable.proofs.Going.{Going, none-read, one-read, one-bad, all-read}
 use Rattle.nametable.proofs.read_all.Statement.{statement}
 use Rattle.nametable.proofs.read_all.Tie as tie
-use Rattle.nametable.proofs.read_all.Reads as reads
-use Rattle.nametable.proofs.read_all.Lts as lts
-use Rattle.nametable.proofs.take.Reads as take-reads
 
 abbrev Inv-loop : tie.InvT-loop
-Inv-loop src names₀ index₀ at n p₀ i₀ names index p i = ?
+Inv-loop src names₀ index₀ at n p₀ i₀ names index p i = Going src names₀ index₀ names index at n i p
 
 abbrev μ-loop : tie.MeasureT-loop
-μ-loop src names₀ index₀ at n p₀ i₀ names index p i = ?
+μ-loop src names₀ index₀ at n p₀ i₀ names index p i = n - i
 
--- src/lib.rt:323:5
 loop-holds : tie.Need-loop-holds Inv-loop μ-loop
-loop-holds c = ?
+loop-holds c = none-read _ _ _ _ _ (omega arith) (omega arith) (omega arith)
 
--- src/lib.rt:324:13
 take-requires : tie.Need-take-requires Inv-loop μ-loop
-take-requires c κs = ?
+take-requires c κs = (omega (arith, c .before .before .before .loop .inv .names-length), omega (arith, c .before .before .before .loop .inv .index-length))
 
--- src/lib.rt:325:25
 enum-known-r : tie.Need-enum-known-r Inv-loop μ-loop
-enum-known-r c = ?
+enum-known-r c = search needs
 
--- src/lib.rt:326:13
 enum-told : tie.Need-enum-told Inv-loop μ-loop
-enum-told c = ?
+enum-told c = search needs
 
--- src/lib.rt:326:13
 same-length : tie.Need-same-length Inv-loop μ-loop
-same-length c = ?
+same-length c = omega (arith, c .before .before .before .before .before .before .before .before .before .before .loop .inv .names-length, c .before .before .before .before .before .before .take .kept .1 .0)
 
--- src/lib.rt:326:13
 same-length-2 : tie.Need-same-length-2 Inv-loop μ-loop
-same-length-2 c = ?
+same-length-2 c = omega (arith, c .before .before .before .before .before .before .before .before .before .before .loop .inv .index-length, c .before .before .before .before .before .before .take .kept .1 .1 .0)
 
--- src/lib.rt:326:13
 returns : tie.Need-returns Inv-loop μ-loop
-returns c = ?
+returns c = one-bad (c .before .before .before .before .before .before .before .before .before .before .loop .inv) (c .before .before .before .before .before .before .before .before .before .loop-test .taken) (c .before .before .before .before .before .before .take .ensures) (c .enum-told .given .1)
 
--- src/lib.rt:329:9
 add-i : tie.Need-add-i Inv-loop μ-loop
-add-i c = ?
+add-i c = omega arith
 
--- src/lib.rt:323:5
 loop-less : tie.Need-loop-less Inv-loop μ-loop
-loop-less c = ?
+loop-less c = omega arith
 
--- src/lib.rt:323:5
 loop-again : tie.Need-loop-again Inv-loop μ-loop
-loop-again c = ?
+loop-again c = one-read (c .before .before .before .before .before .before .before .before .before .before .before .loop .inv) (c .before .before .before .before .before .before .before .before .before .before .loop-test .taken) (omega arith) (c .before .before .before .before .before .before .before .take .kept .1 .0) (c .before .before .before .before .before .before .before .take .kept .1 .1 .0) (c .before .before .before .before .before .before .before .take .ensures) (c .before .r .given .1)
 
--- src/lib.rt:314:1
 same-length-3 : tie.Need-same-length-3 Inv-loop μ-loop
-same-length-3 c = ?
+same-length-3 c = omega (arith, c .before .loop .inv .names-length)
 
--- src/lib.rt:314:1
 same-length-4 : tie.Need-same-length-4 Inv-loop μ-loop
-same-length-4 c = ?
+same-length-4 c = omega (arith, c .before .loop .inv .index-length)
 
--- src/lib.rt:314:1
 returns-2 : tie.Need-returns-2 Inv-loop μ-loop
-returns-2 c = ?
+returns-2 c = all-read (c .before .loop .inv) (omega arith)
 
 pub read-all-spec : {M : Type 1} → statement M
 read-all-spec =

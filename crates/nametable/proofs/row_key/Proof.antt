@@ -3,58 +3,43 @@ use Rattle.nametable.proofs.Cells.{row-read}
 use borrow.Author.Needs.{needs}
 use Rattle.nametable.proofs.row_key.Statement.{statement}
 use Rattle.nametable.proofs.row_key.Tie as tie
-use Rattle.nametable.proofs.row_key.Reads as reads
-use Rattle.nametable.proofs.row_key.Lts as lts
 
--- src/lib.rt:142:13
 mul-i : tie.Need-mul-i
 mul-i c = search needs
 
--- src/lib.rt:145:12
 mul-t4 : tie.Need-mul-t4
 mul-t4 c = search needs
 
--- src/lib.rt:145:12
 shared-slice-read-t6 : tie.Need-shared-slice-read-t6
 shared-slice-read-t6 c = search needs
 
--- src/lib.rt:146:18
 add-t7 : tie.Need-add-t7
 add-t7 c = search needs
 
--- src/lib.rt:146:12
 mul-t8 : tie.Need-mul-t8
 mul-t8 c = search needs
 
--- src/lib.rt:146:12
 shared-slice-read-t10 : tie.Need-shared-slice-read-t10
 shared-slice-read-t10 c = search needs
 
--- src/lib.rt:147:18
 add-t11 : tie.Need-add-t11
 add-t11 c = search needs
 
--- src/lib.rt:147:12
 mul-t12 : tie.Need-mul-t12
 mul-t12 c = search needs
 
--- src/lib.rt:147:12
 shared-slice-read-t14 : tie.Need-shared-slice-read-t14
 shared-slice-read-t14 c = search needs
 
--- src/lib.rt:148:18
 add-t15 : tie.Need-add-t15
 add-t15 c = search needs
 
--- src/lib.rt:148:12
 mul-t16 : tie.Need-mul-t16
 mul-t16 c = search needs
 
--- src/lib.rt:148:12
 shared-slice-read-t18 : tie.Need-shared-slice-read-t18
 shared-slice-read-t18 c = search needs
 
--- src/lib.rt:138:1
 returns : tie.Need-returns
 returns c = row-read _ _
 

@@ -5,55 +5,40 @@ use Rattle.nametable.proofs.Cells.{row-differs, row-last}
 use borrow.Author.Needs.{needs}
 use Rattle.nametable.proofs.same_row.Statement.{statement}
 use Rattle.nametable.proofs.same_row.Tie as tie
-use Rattle.nametable.proofs.same_row.Reads as reads
-use Rattle.nametable.proofs.same_row.Lts as lts
-use Rattle.nametable.proofs.word.Reads as word-reads
 
--- src/lib.rt:157:13
 mul-i : tie.Need-mul-i
 mul-i c = search needs
 
--- src/lib.rt:158:15
 word-requires : tie.Need-word-requires
 word-requires c κs = search needs
 
--- src/lib.rt:159:9
 returns : tie.Need-returns
 returns c = row-differs (c .before .before .before .before .args .k) _ _ (omega arith) (record { below = λ i. omega (arith, (c .before .before .before .shared-slice-known .given) i) }) (λ s. (c .if1 .taken) (s .a-same ∙ sym (c .before .before .word .ensures)))
 
--- src/lib.rt:161:27
 add-word : tie.Need-add-word
 add-word c = search needs
 
--- src/lib.rt:161:15
 word-requires-2 : tie.Need-word-requires-2
 word-requires-2 c κs = search needs
 
--- src/lib.rt:162:9
 returns-2 : tie.Need-returns-2
 returns-2 c = row-differs (c .before .before .before .before .before .before .before .args .k) _ _ (omega arith) (record { below = λ i. omega (arith, (c .before .before .before .before .before .before .shared-slice-known .given) i) }) (λ s. (c .if2 .taken) (s .b-same ∙ sym (c .before .before .word2 .ensures)))
 
--- src/lib.rt:164:27
 add-word-2 : tie.Need-add-word-2
 add-word-2 c = search needs
 
--- src/lib.rt:164:15
 word-requires-3 : tie.Need-word-requires-3
 word-requires-3 c κs = search needs
 
--- src/lib.rt:165:9
 returns-3 : tie.Need-returns-3
 returns-3 c = row-differs (c .before .before .before .before .before .before .before .before .before .before .args .k) _ _ (omega arith) (record { below = λ i. omega (arith, (c .before .before .before .before .before .before .before .before .before .shared-slice-known .given) i) }) (λ s. (c .if3 .taken) (s .c-same ∙ sym (c .before .before .word3 .ensures)))
 
--- src/lib.rt:167:24
 add-word-3 : tie.Need-add-word-3
 add-word-3 c = search needs
 
--- src/lib.rt:167:12
 word-requires-4 : tie.Need-word-requires-4
 word-requires-4 c κs = search needs
 
--- src/lib.rt:153:1
 returns-4 : tie.Need-returns-4
 returns-4 c = row-last (c .before .before .before .before .before .before .before .before .before .before .before .before .args .k) _ _ _ (omega arith) (record { below = λ i. omega (arith, (c .before .before .before .before .before .before .before .before .before .before .before .shared-slice-known .given) i) }) ((c .before .before .before .before .before .before .before .before .if1 .left) ∙ (c .before .before .before .before .before .before .before .before .before .before .word .ensures)) ((c .before .before .before .before .before .if2 .left) ∙ (c .before .before .before .before .before .before .before .word2 .ensures)) ((c .before .before .if3 .left) ∙ (c .before .before .before .before .word3 .ensures)) (c .before .word4 .ensures)
 

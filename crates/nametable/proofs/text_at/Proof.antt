@@ -4,68 +4,49 @@ use Rattle.nametable.proofs.Entry.{field-at, field-in, cut-there, empty
 use borrow.Author.Needs.{needs}
 use Rattle.nametable.proofs.text_at.Statement.{statement}
 use Rattle.nametable.proofs.text_at.Tie as tie
-use Rattle.nametable.proofs.text_at.Reads as reads
-use Rattle.nametable.proofs.text_at.Lts as lts
-use Rattle.reader.proofs.byte.Reads as byte-reads
-use Rattle.spelling.proofs.letters.Reads as letters-reads
 
--- src/lib.rt:250:9
 byte-requires : tie.Need-byte-requires
 byte-requires c κs = search needs
 
--- src/lib.rt:252:23
 enum-told : tie.Need-enum-told
 enum-told c = search needs
 
--- src/lib.rt:253:19
 enum-known-f : tie.Need-enum-known-f
 enum-known-f c = search needs
 
--- src/lib.rt:255:17
 returns : tie.Need-returns
 returns c = empty-there _ _ _ (field-at _ _ _ _ (c .before .before .before .before .byte .ensures) (c .before .before .f .given .1)) (c .if1 .taken)
 
--- src/lib.rt:258:17
 returns-2 : tie.Need-returns-2
 returns-2 c = long-there _ _ _ (field-at _ _ _ _ (c .before .before .before .before .before .byte .ensures) (c .before .before .before .f .given .1)) (c .if2 .taken)
 
--- src/lib.rt:260:16
 sub-if3 : tie.Need-sub-if3
 sub-if3 c = let h = field-in _ _ _ _ (c .before .before .before .before .before .byte .ensures) (c .before .before .before .f .given .1) in omega arith
 
--- src/lib.rt:260:16
 sub-if3-2 : tie.Need-sub-if3-2
 sub-if3-2 c = let h = field-in _ _ _ _ (c .before .before .before .before .before .byte .ensures) (c .before .before .before .f .given .1) in omega arith
 
--- src/lib.rt:261:36
 add-t10 : tie.Need-add-t10
 add-t10 c = let h = field-in _ _ _ _ (c .before .before .before .before .before .before .byte .ensures) (c .before .before .before .before .f .given .1) in omega arith
 
--- src/lib.rt:261:17
 returns-3 : tie.Need-returns-3
 returns-3 c = let h = field-in _ _ _ _ (c .before .before .before .before .before .before .byte .ensures) (c .before .before .before .before .f .given .1) in text-cut _ _ _ (field-at _ _ _ _ (c .before .before .before .before .before .before .byte .ensures) (c .before .before .before .before .f .given .1)) (c .before .before .if1 .left) (omega arith) (omega arith)
 
--- src/lib.rt:263:40
 add-letters : tie.Need-add-letters
 add-letters c = search needs
 
--- src/lib.rt:263:17
 letters-requires : tie.Need-letters-requires
 letters-requires c κs = search needs
 
--- src/lib.rt:264:36
 add-t12 : tie.Need-add-t12
 add-t12 c = search needs
 
--- src/lib.rt:264:17
 returns-4 : tie.Need-returns-4
 returns-4 c = let h = field-in _ _ _ _ (c .before .before .before .before .before .before .before .before .byte .ensures) (c .before .before .before .before .before .before .f .given .1) in no-letters _ _ _ _ (field-at _ _ _ _ (c .before .before .before .before .before .before .before .before .byte .ensures) (c .before .before .before .before .before .before .f .given .1)) (c .before .before .before .before .if1 .left) (omega arith) (omega arith) (c .before .letters .ensures) (c .if4 .taken)
 
--- src/lib.rt:247:1
 returns-5 : tie.Need-returns-5
 returns-5 c = cut-there _ _ _ (c .before .before .byte .ensures) (c .enum-told .given .1)
 
--- src/lib.rt:247:1
 returns-6 : tie.Need-returns-6
 returns-6 c = let h = field-in _ _ _ _ (c .before .before .before .before .before .before .before .before .byte .ensures) (c .before .before .before .before .before .before .f .given .1) in text-there _ _ _ _ (field-at _ _ _ _ (c .before .before .before .before .before .before .before .before .byte .ensures) (c .before .before .before .before .before .before .f .given .1)) (c .before .before .before .before .if1 .left) (omega arith) (omega arith) (c .before .letters .ensures) (c .if4 .left)
 
