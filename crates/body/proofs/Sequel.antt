@@ -45,13 +45,19 @@ module _ (bytes ix ix′ : List ℕ) (n : Counts) (at : ℕ) where
 
   pub decls-more : (d p : ℕ) → GivesSection bytes ix ix′ n Part-Decls at (Many-Read d p) → (p ≡ length bytes → ⊥) → GivesTail DeclsAs 10_240 bytes ix ix′ n at (Bad (Format p))
   unfolding after-exprs
-  decls-more d p g h = record { low = g .low; is = λ s k. let o = g .is s k in
-      goes-on _ _ (o .0) p _ (o .1) ∙ stops (end-of-file p (from p bytes)) _ _ (byte-more bytes p (let w = o .4 in omega (arith, w, h))) }
+  decls-more d p g h = record {
+    low = g .low;
+    is = λ s k. let o = g .is s k in
+        goes-on _ _ (o .0) p _ (o .1) ∙ stops (end-of-file p (from p bytes)) _ _ (byte-more bytes p (let w = o .4 in omega (arith, w, h)));
+  }
 
   pub decls-good : (d p : ℕ) → GivesSection bytes ix ix′ n Part-Decls at (Many-Read d p) → p ≡ length bytes
       → GivesTail DeclsAs 10_240 bytes ix ix′ n at (Good (n .names) (n .types) (n .exprs) d)
-  decls-good d p g h = record { low = g .low; is = λ s k. let o = g .is s k in
-      (refl, refl, refl, record { decls = o .0; read = o .1 ∙ ap (λ bs. got (o .0) p bs) (file-ends bytes p h) ∙ ap (λ q. got (o .0) q []) h; many = o .2; placed = subst (λ q. Placed bytes ix′ 10_240 (λ earlier. decl-entry (s .names) (s .types) (s .exprs)) (o .0) (at + 2) q) h (o .5) }) }
+  decls-good d p g h = record {
+    low = g .low;
+    is = λ s k. let o = g .is s k in
+        (refl, refl, refl, record { decls = o .0; read = o .1 ∙ ap (λ bs. got (o .0) p bs) (file-ends bytes p h) ∙ ap (λ q. got (o .0) q []) h; many = o .2; placed = subst (λ q. Placed bytes ix′ 10_240 (λ earlier. decl-entry (s .names) (s .types) (s .exprs)) (o .0) (at + 2) q) h (o .5) });
+  }
 
   -- ## expressions
   pub exprs-bad : (e : Refusal) → GivesSection bytes ix ix′ n Part-Exprs at (Many-Bad e) → GivesTail ExprsAs 6_144 bytes ix ix′ n at (Bad e)
@@ -83,9 +89,18 @@ module _ (bytes ix ix₁ ix′ : List ℕ) (n : Counts) (at : ℕ) (few : n .nam
     where
       go : (s : Before) → (es : List _) × (section 4_096 (expr-node (s .names)) at (from at bytes) ≡ got es p (from p bytes)) × (count es ≡ c) × (c ≤ 4_096) × (p ≤ length bytes) × Placed bytes ix₁ 6_144 (expr-node (s .names)) es (at + 2) p
           → (r : Reading) → ((es : List _) → count es ≡ c → DeclsAs bytes ix′ (record { names = n .names; types = n .types; exprs = c }) (with-exprs s es) p r) → ExprsAs bytes ix′ n s at r
-      go s o (Good a b c₁ d) f = let x = f (o .0) (o .2) in
-          (x .0, x .1, record { exprs = o .0; end = p; read = o .1; many = o .2 ∙ sym (x .2);
-            placed = placed-kept bytes ix₁ ix′ 6_144 _ (o .0) (at + 2) p (λ j l. h .low (6_144 + j) (let u = o .2 in let v = o .3 in omega arith)) (o .5); rest = x .3 })
+      go s o (Good a b c₁ d) f = let x = f (o .0) (o .2) in (
+        x .0,
+        x .1,
+        record {
+          exprs = o .0;
+          end = p;
+          read = o .1;
+          many = o .2 ∙ sym (x .2);
+          placed = placed-kept bytes ix₁ ix′ 6_144 _ (o .0) (at + 2) p (λ j l. h .low (6_144 + j) (let u = o .2 in let v = o .3 in omega arith)) (o .5);
+          rest = x .3;
+        },
+      )
       go s o (Bad e) f = goes-on _ _ (o .0) p _ (o .1) ∙ f (o .0) (o .2)
 
   -- Types, and then expressions.
@@ -96,7 +111,15 @@ module _ (bytes ix ix₁ ix′ : List ℕ) (n : Counts) (at : ℕ) (few : n .nam
     where
       go : (s : Before) → (ts : List _) × (section 4_096 (type-node (s .names)) at (from at bytes) ≡ got ts p (from p bytes)) × (count ts ≡ b) × (b ≤ 4_096) × (p ≤ length bytes) × Placed bytes ix₁ 2_048 (type-node (s .names)) ts (at + 2) p
           → (r : Reading) → ((ts : List _) → count ts ≡ b → ExprsAs bytes ix′ (record { names = n .names; types = b; exprs = n .exprs }) (with-types s ts) p r) → TypesAs bytes ix′ n s at r
-      go s o (Good a b₁ c d) f = let x = f (o .0) (o .2) in
-          (x .0, record { types = o .0; end = p; read = o .1; many = o .2 ∙ sym (x .1);
-            placed = placed-kept bytes ix₁ ix′ 2_048 _ (o .0) (at + 2) p (λ j l. h .low (2_048 + j) (let u = o .2 in let v = o .3 in omega arith)) (o .5); rest = x .2 })
+      go s o (Good a b₁ c d) f = let x = f (o .0) (o .2) in (
+        x .0,
+        record {
+          types = o .0;
+          end = p;
+          read = o .1;
+          many = o .2 ∙ sym (x .1);
+          placed = placed-kept bytes ix₁ ix′ 2_048 _ (o .0) (at + 2) p (λ j l. h .low (2_048 + j) (let u = o .2 in let v = o .3 in omega arith)) (o .5);
+          rest = x .2;
+        },
+      )
       go s o (Bad e) f = goes-on _ _ (o .0) p _ (o .1) ∙ f (o .0) (o .2)

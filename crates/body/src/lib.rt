@@ -44,7 +44,11 @@ fn read_exprs(src: &[u8], index: &mut [u64], at: usize, n: Counts) -> Reading
             src,
             index,
             p,
-            Counts { names: n.names, types: n.types, exprs: c },
+            Counts {
+                names: n.names,
+                types: n.types,
+                exprs: c,
+            },
         ),
         Many::Bad(e) => Reading::Bad(e),
     }
@@ -62,7 +66,11 @@ pub fn read_types(src: &[u8], index: &mut [u64], at: usize, n: Counts) -> Readin
             src,
             index,
             p,
-            Counts { names: n.names, types: b, exprs: n.exprs },
+            Counts {
+                names: n.names,
+                types: b,
+                exprs: n.exprs,
+            },
         ),
         Many::Bad(e) => Reading::Bad(e),
     }

@@ -25,7 +25,11 @@ fn read_all(src: &[u8], names: &mut [u64], index: &mut [u64]) -> Reading
                     src,
                     index,
                     q,
-                    Counts { names: a, types: 0, exprs: 0 },
+                    Counts {
+                        names: a,
+                        types: 0,
+                        exprs: 0,
+                    },
                 ),
                 Place::Bad(e) => Reading::Bad(e),
             }

@@ -35,8 +35,10 @@ module _ (P : Before → Type 0) (bytes : List ℕ) (at : ℕ) (q : Place) where
   pub let-on : (p : ℕ) → Gives P bytes (λ s. word (s .names)) at (Next p) → Gives P bytes (λ s. pair (one-of (s .exprs)) (one-of (s .exprs))) p q
       → Gives P bytes (λ s. let-node (s .names) (s .exprs)) at q
   unfolding let-node
-  let-on p g h = record { is = λ s k. goes bytes (word (s .names) at (from at bytes)) _ p q (g .is s k) λ x.
-      paired bytes (one-of (s .exprs)) (one-of (s .exprs)) _ p (from p bytes) q (h .is s k) }
+  let-on p g h = record {
+    is = λ s k. goes bytes (word (s .names) at (from at bytes)) _ p q (g .is s k) λ x.
+        paired bytes (one-of (s .exprs)) (one-of (s .exprs)) _ p (from p bytes) q (h .is s k);
+  }
 
   -- An instance: context, head, methods.
   pub instance-parts : Gives P bytes (λ s. pair (list-of (pred-entry (s .names) (s .types))) (instance-body s)) at q
@@ -48,5 +50,7 @@ module _ (P : Before → Type 0) (bytes : List ℕ) (at : ℕ) (q : Place) where
   pub class-on : (p : ℕ) → Gives P bytes (λ s. one-of (s .names)) at (Next p) → Gives P bytes (λ s. pair (variable (s .names)) (class-body s)) p q
       → Gives P bytes (λ s. class-entry (s .names) (s .types) (s .exprs)) at q
   unfolding class-entry
-  class-on p g h = record { is = λ s k. goes bytes (one-of (s .names) at (from at bytes)) _ p q (g .is s k) λ c.
-      four-paired bytes (variable (s .names)) (list-of (one-of (s .names))) (list-of (pair (word (s .names)) (one-of (s .types)))) _ _ p (from p bytes) q (h .is s k) }
+  class-on p g h = record {
+    is = λ s k. goes bytes (one-of (s .names) at (from at bytes)) _ p q (g .is s k) λ c.
+        four-paired bytes (variable (s .names)) (list-of (one-of (s .names))) (list-of (pair (word (s .names)) (one-of (s .types)))) _ _ p (from p bytes) q (h .is s k);
+  }

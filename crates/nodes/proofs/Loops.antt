@@ -41,28 +41,36 @@ pub items-past : {A : Type 0} (bytes : List ℕ) (r : List A → Reader A) (left
 unfolding onward
 items-past bytes r left xs p q h v = items-more r left xs p (from p bytes) h ∙ ap (λ o. onward o (λ x. items r (left - 1) (xs ++ x ∷ []))) (v .is)
 
-pub left-less : {A : Type 0} (P : Before → Type 0) (bytes : List ℕ) (r : Before → Reader A) (at m p q left : ℕ) 
+pub left-less : {A : Type 0} (P : Before → Type 0) (bytes : List ℕ) (r : Before → Reader A) (at m p q left : ℕ)
     → Left P bytes r at m p left → 0 < left → Gives P bytes r p (Next q) → Left P bytes r at m q (left - 1)
-left-less P bytes r at m p q left l i g = record { is = λ s k.
-    let x = l .is s k in let v = g .is s k in (x .0 ++ v .value ∷ [], v .within, x .2 ∙ items-past bytes (λ ys. r s) left (x .0) p q i v) }
+left-less P bytes r at m p q left l i g = record {
+  is = λ s k.
+      let x = l .is s k in let v = g .is s k in (x .0 ++ v .value ∷ [], v .within, x .2 ∙ items-past bytes (λ ys. r s) left (x .0) p q i v);
+}
 
 pub left-bad : {A : Type 0} (P : Before → Type 0) (bytes : List ℕ) (r : Before → Reader A) (at m p left : ℕ) (e : _)
     → Left P bytes r at m p left → 0 < left → Gives P bytes r p (Bad e) → Gives P bytes (λ s. items (λ ys. r s) m []) at (Bad e)
-left-bad P bytes r at m p left e l i g = record { is = λ s k.
-    let x = l .is s k in x .2 ∙ items-more (λ ys. r s) left (x .0) p (from p bytes) i ∙ stops (r s p (from p bytes)) _ _ (g .is s k) }
+left-bad P bytes r at m p left e l i g = record {
+  is = λ s k.
+      let x = l .is s k in x .2 ∙ items-more (λ ys. r s) left (x .0) p (from p bytes) i ∙ stops (r s p (from p bytes)) _ _ (g .is s k);
+}
 
 pub left-none : {A : Type 0} (P : Before → Type 0) (bytes : List ℕ) (r : Before → Reader A) (at m p left : ℕ)
     → Left P bytes r at m p left → left ≡ 0 → Gives P bytes (λ s. items (λ ys. r s) m []) at (Next p)
 unfolding items
-left-none P bytes r at m p left l i = record { is = λ s k.
-    let x = l .is s k in record { value = x .0; is = x .2 ∙ ap (λ (j : ℕ). items (λ ys. r s) j (x .0) p (from p bytes)) i; within = x .1 } }
+left-none P bytes r at m p left l i = record {
+  is = λ s k.
+      let x = l .is s k in record { value = x .0; is = x .2 ∙ ap (λ (j : ℕ). items (λ ys. r s) j (x .0) p (from p bytes)) i; within = x .1 };
+}
 
 -- ## a count before them
 pub list-items : {A : Type 0} (P : Before → Type 0) (bytes : List ℕ) (r : Before → Reader A) (at m : ℕ) (q : Place) → IsCount 64 bytes at (Is m)
     → Gives P bytes (λ s. items (λ ys. r s) m []) (at + 2) q → Gives P bytes (λ s. list-of (r s)) at q
 unfolding list-of section
-list-items P bytes r at m q c g = record { is = λ s k.
-    goes-with bytes (counted 64 at (from at bytes)) _ m (at + 2) q (c .is .0) (g .is s k) }
+list-items P bytes r at m q c g = record {
+  is = λ s k.
+      goes-with bytes (counted 64 at (from at bytes)) _ m (at + 2) q (c .is .0) (g .is s k);
+}
 
 pub list-bad : {A : Type 0} (P : Before → Type 0) (bytes : List ℕ) (r : Before → Reader A) (at : ℕ) (e : _) → IsCount 64 bytes at (Count-Bad e)
     → Gives P bytes (λ s. list-of (r s)) at (Bad e)

@@ -36,8 +36,10 @@ counts n s Exprs k = k .exprs
 
 pub one-of-at : (n : Counts) (of : Section) (bytes : List ℕ) (at v m : ℕ) → m ≡ manyOf n of → Picks m bytes at (At v)
     → Gives (Sized n) bytes (λ s. one-of (things of s)) at (Next (at + 2))
-one-of-at n of bytes at v m e p = record { is = λ s k.
-    let q = picked (things of s) m bytes at v (counts n s of k ∙ sym e) p in record { value = q .0; is = q .2; within = p .is .0 .1 } }
+one-of-at n of bytes at v m e p = record {
+  is = λ s k.
+      let q = picked (things of s) m bytes at v (counts n s of k ∙ sym e) p in record { value = q .0; is = q .2; within = p .is .0 .1 };
+}
 
 pub one-of-none : (n : Counts) (of : Section) (bytes : List ℕ) (at m : ℕ) → m ≡ manyOf n of → Picks m bytes at Nothing
     → Gives (Sized n) bytes (λ s. one-of (things of s)) at (Bad (Format at))
@@ -65,24 +67,32 @@ eqb-no a b h = no?-of (ℕ-discrete a b) h
 
 pub name-free : (u : Use) (ix bytes : List ℕ) (n : Counts) (at v : ℕ) → Picks (n .names) bytes at (At v) → (getD ix (1_024 + v) 0 ≡ reserved-form u → ⊥)
     → Gives (Known ix n) bytes (λ s. name-for u s) at (Next (at + 2))
-name-free u ix bytes n at v p h = record { is = λ s k.
-    let q = picked (s .names) (n .names) bytes at v (k .sized .names) p in
-    let f = made-by u (q .0) _ (k .forms .at v (q .0) (q .1)) in
-    record { value = q .0;
-      is = ap (λ (r : Reader Name). r at (from at bytes)) (for-use u s) ∙ item-got reserved (one-of (s .names)) (unless (made u)) at _ (q .0) (q .0) _ _ (q .2) (passed (made u) (q .0) (f ∙ eqb-no _ _ h));
-      within = p .is .0 .1 } }
+name-free u ix bytes n at v p h = record {
+  is = λ s k.
+      let q = picked (s .names) (n .names) bytes at v (k .sized .names) p in
+      let f = made-by u (q .0) _ (k .forms .at v (q .0) (q .1)) in
+      record {
+        value = q .0;
+        is = ap (λ (r : Reader Name). r at (from at bytes)) (for-use u s) ∙ item-got reserved (one-of (s .names)) (unless (made u)) at _ (q .0) (q .0) _ _ (q .2) (passed (made u) (q .0) (f ∙ eqb-no _ _ h));
+        within = p .is .0 .1;
+      };
+}
 
 pub name-reserved : (u : Use) (ix bytes : List ℕ) (n : Counts) (at v : ℕ) → Picks (n .names) bytes at (At v) → getD ix (1_024 + v) 0 ≡ reserved-form u
     → Gives (Known ix n) bytes (λ s. name-for u s) at (Bad (Reserved at))
-name-reserved u ix bytes n at v p h = record { is = λ s k.
-    let q = picked (s .names) (n .names) bytes at v (k .sized .names) p in
-    let f = made-by u (q .0) _ (k .forms .at v (q .0) (q .1)) in
-    ap (λ (r : Reader Name). r at (from at bytes)) (for-use u s) ∙ item-fails reserved (one-of (s .names)) (unless (made u)) at _ (q .0) _ _ (q .2) (failed (made u) (q .0) (f ∙ eqb-of _ _ h)) }
+name-reserved u ix bytes n at v p h = record {
+  is = λ s k.
+      let q = picked (s .names) (n .names) bytes at v (k .sized .names) p in
+      let f = made-by u (q .0) _ (k .forms .at v (q .0) (q .1)) in
+      ap (λ (r : Reader Name). r at (from at bytes)) (for-use u s) ∙ item-fails reserved (one-of (s .names)) (unless (made u)) at _ (q .0) _ _ (q .2) (failed (made u) (q .0) (f ∙ eqb-of _ _ h));
+}
 
 pub name-none : (u : Use) (ix bytes : List ℕ) (n : Counts) (at : ℕ) → Picks (n .names) bytes at Nothing
     → Gives (Known ix n) bytes (λ s. name-for u s) at (Bad (Format at))
-name-none u ix bytes n at p = record { is = λ s k.
-    ap (λ (r : Reader Name). r at (from at bytes)) (for-use u s) ∙ item-bad reserved (one-of (s .names)) (unless (made u)) at _ _ (none-picked (s .names) (n .names) bytes at (k .sized .names) p) }
+name-none u ix bytes n at p = record {
+  is = λ s k.
+      ap (λ (r : Reader Name). r at (from at bytes)) (for-use u s) ∙ item-bad reserved (one-of (s .names)) (unless (made u)) at _ _ (none-picked (s .names) (n .names) bytes at (k .sized .names) p);
+}
 
 -- ## one reader after another
 -- Counts alone are known where forms are too.
@@ -98,8 +108,10 @@ pair-bad P bytes r₁ r₂ at e g = record { is = λ s k. stops (r₁ s at (from
 pub pair-on : {A B : Type 0} (P : Before → Type 0) (bytes : List ℕ) (r₁ : Before → Reader A) (r₂ : Before → Reader B) (at p : ℕ) (r : Place)
     → Gives P bytes r₁ at (Next p) → Gives P bytes r₂ p r → Gives P bytes (λ s. pair (r₁ s) (r₂ s)) at r
 unfolding pair
-pair-on P bytes r₁ r₂ at p r g h = record { is = λ s k.
-    goes bytes (r₁ s at (from at bytes)) _ p r (g .is s k) λ a. ends bytes (r₂ s p (from p bytes)) (λ b. (a, b)) r (h .is s k) }
+pair-on P bytes r₁ r₂ at p r g h = record {
+  is = λ s k.
+      goes bytes (r₁ s at (from at bytes)) _ p r (g .is s k) λ a. ends bytes (r₂ s p (from p bytes)) (λ b. (a, b)) r (h .is s k);
+}
 
 -- A class and a type.
 pub pred-pair : (n : Counts) (bytes : List ℕ) (at : ℕ) (r : Place) → Gives (Sized n) bytes (λ s. pair (one-of (s .names)) (one-of (s .types))) at r

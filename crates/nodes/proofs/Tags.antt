@@ -31,16 +31,20 @@ module _ {A : Type 0} (P : Before → Type 0) (bytes : List ℕ) (rs : Before �
   pub tag-goes : (r : Before → Reader A) (t : ℕ) (q : Place) → IsField 1 bytes at (Is t) → ((s : Before) → nth (rs s) t ≡ some (r s))
       → Gives P bytes r (at + 1) q → Gives P bytes (λ s. tagged (rs s)) at q
   unfolding tagged
-  tag-goes r t q f h g = record { is = λ s k.
-      goes-with bytes (item format (numeral 1) (nth (rs s)) at (from at bytes)) _ (r s) (at + 1) q
-      (item-got format (numeral 1) (nth (rs s)) at _ t (r s) _ _ (f .is .0) (h s)) (g .is s k) }
+  tag-goes r t q f h g = record {
+    is = λ s k.
+        goes-with bytes (item format (numeral 1) (nth (rs s)) at (from at bytes)) _ (r s) (at + 1) q
+        (item-got format (numeral 1) (nth (rs s)) at _ t (r s) _ _ (f .is .0) (h s)) (g .is s k);
+  }
 
   -- The tag is unknown, or cut.
   pub tag-unknown : (t m : ℕ) → IsField 1 bytes at (Is t) → ((s : Before) → count (rs s) ≡ m) → m ≤ t → Gives P bytes (λ s. tagged (rs s)) at (Bad (Format at))
   unfolding tagged
-  tag-unknown t m f h i = record { is = λ s k.
-      stops (item format (numeral 1) (nth (rs s)) at (from at bytes)) _ _
-      (item-fails format (numeral 1) (nth (rs s)) at _ t _ _ (f .is .0) (nth-past (rs s) t (let e = h s in omega arith))) }
+  tag-unknown t m f h i = record {
+    is = λ s k.
+        stops (item format (numeral 1) (nth (rs s)) at (from at bytes)) _ _
+        (item-fails format (numeral 1) (nth (rs s)) at _ t _ _ (f .is .0) (nth-past (rs s) t (let e = h s in omega arith)));
+  }
 
   pub tag-cut : IsField 1 bytes at Cut → Gives P bytes (λ s. tagged (rs s)) at (Bad (Format at))
   unfolding tagged
@@ -150,8 +154,10 @@ module _ (bytes : List ℕ) (at : ℕ) where
 
   pub bool-over : (v : ℕ) → IsField 1 bytes at (Is v) → 2 ≤ v → Gives Any bytes (λ s. bool-node) at (Bad (Format at))
   unfolding bool-node count
-  bool-over v f h = record { is = λ s k. stops (item format (numeral 1) (nth (false ∷ true ∷ [])) at (from at bytes)) _ _
-      (item-fails format (numeral 1) (nth (false ∷ true ∷ [])) at _ v _ _ (f .is .0) (nth-past (false ∷ true ∷ []) v h)) }
+  bool-over v f h = record {
+    is = λ s k. stops (item format (numeral 1) (nth (false ∷ true ∷ [])) at (from at bytes)) _ _
+        (item-fails format (numeral 1) (nth (false ∷ true ∷ [])) at _ v _ _ (f .is .0) (nth-past (false ∷ true ∷ []) v h));
+  }
 
   pub bool-cut : IsField 1 bytes at Cut → Gives Any bytes (λ s. bool-node) at (Bad (Format at))
   unfolding bool-node
@@ -159,8 +165,12 @@ module _ (bytes : List ℕ) (at : ℕ) where
 
   pub bool-is : (v : ℕ) → IsField 1 bytes at (Is v) → v < 2 → Gives Any bytes (λ s. bool-node) at (Next (at + 1))
   unfolding bool-node nth
-  bool-is zero f h = record { is = λ s k. ends bytes (item format (numeral 1) (nth (false ∷ true ∷ [])) at (from at bytes)) _ (Next (at + 1))
-      (record { value = false; is = item-got format (numeral 1) (nth (false ∷ true ∷ [])) at _ 0 false _ _ (f .is .0) refl; within = f .is .1 }) }
-  bool-is (suc zero) f h = record { is = λ s k. ends bytes (item format (numeral 1) (nth (false ∷ true ∷ [])) at (from at bytes)) _ (Next (at + 1))
-      (record { value = true; is = item-got format (numeral 1) (nth (false ∷ true ∷ [])) at _ 1 true _ _ (f .is .0) refl; within = f .is .1 }) }
+  bool-is zero f h = record {
+    is = λ s k. ends bytes (item format (numeral 1) (nth (false ∷ true ∷ [])) at (from at bytes)) _ (Next (at + 1))
+        (record { value = false; is = item-got format (numeral 1) (nth (false ∷ true ∷ [])) at _ 0 false _ _ (f .is .0) refl; within = f .is .1 });
+  }
+  bool-is (suc zero) f h = record {
+    is = λ s k. ends bytes (item format (numeral 1) (nth (false ∷ true ∷ [])) at (from at bytes)) _ (Next (at + 1))
+        (record { value = true; is = item-got format (numeral 1) (nth (false ∷ true ∷ [])) at _ 1 true _ _ (f .is .0) refl; within = f .is .1 });
+  }
   bool-is (suc (suc v)) f h = absurd (omega arith)

@@ -49,7 +49,7 @@ flat-two {A = A} {B = B} {C = C} f r s at bs = go (r at bs)
 
 flat-three : {A B C D : Type 0} (f : A → B → C → D) (r : Reader A) (s : Reader B) (t : Reader C) (at : ℕ) (bs : List ℕ)
     → onward (pair r (pair s t) at bs) (λ (x : A × (B × C)) at₂ bs₂. got (f (x .0) (x .1 .0) (x .1 .1)) at₂ bs₂)
-      ≡ onward (r at bs) (λ a at₁ bs₁. onward (s at₁ bs₁) (λ b at₂ bs₂. onward (t at₂ bs₂) (λ c at₃ bs₃. got (f a b c) at₃ bs₃)))
+    ≡ onward (r at bs) (λ a at₁ bs₁. onward (s at₁ bs₁) (λ b at₂ bs₂. onward (t at₂ bs₂) (λ c at₃ bs₃. got (f a b c) at₃ bs₃)))
 unfolding pair onward
 flat-three {A = A} {B = B} {C = C} {D = D} f r s t at bs = go (r at bs)
   where
@@ -60,7 +60,7 @@ flat-three {A = A} {B = B} {C = C} {D = D} f r s t at bs = go (r at bs)
 
 flat-four : {A B C D E : Type 0} (f : A → B → C → D → E) (r : Reader A) (s : Reader B) (t : Reader C) (u : Reader D) (at : ℕ) (bs : List ℕ)
     → onward (pair r (pair s (pair t u)) at bs) (λ (x : A × (B × (C × D))) at₂ bs₂. got (f (x .0) (x .1 .0) (x .1 .1 .0) (x .1 .1 .1)) at₂ bs₂)
-      ≡ onward (r at bs) (λ a at₁ bs₁. onward (s at₁ bs₁) (λ b at₂ bs₂. onward (t at₂ bs₂) (λ c at₃ bs₃. onward (u at₃ bs₃) (λ d at₄ bs₄. got (f a b c d) at₄ bs₄))))
+    ≡ onward (r at bs) (λ a at₁ bs₁. onward (s at₁ bs₁) (λ b at₂ bs₂. onward (t at₂ bs₂) (λ c at₃ bs₃. onward (u at₃ bs₃) (λ d at₄ bs₄. got (f a b c d) at₄ bs₄))))
 unfolding pair onward
 flat-four {A = A} {B = B} {C = C} {D = D} {E = E} f r s t u at bs = go (r at bs)
   where

@@ -61,11 +61,12 @@ pub placed-more : {A : Type 0} (bytes ix ix′ : List ℕ) (base : ℕ) (r : Lis
     → Placed bytes ix base r xs at p → ((j : ℕ) → j < count xs → getD ix′ (base + j) 0 ≡ getD ix (base + j) 0) → getD ix′ (base + count xs) 0 ≡ p
     → r xs p (from p bytes) ≡ got x q (from q bytes) → Placed bytes ix′ base r (xs ++ x ∷ []) at q
 placed-more bytes ix ix′ base r xs x at p q h old new e = record {
-    begins = ends-at n q (h .begins);
-    first = ends-other n q (h .begins) 0 (λ i. omega (arith, i)) ∙ h .first;
-    last = ends-last n q (h .begins) (count (xs ++ x ∷ [])) (count-snoc xs x);
-    word = λ j l. word-at j (ℕ-discrete j n) (subst (λ m. j < m) (count-snoc xs x) l);
-    item = λ j y i. item-at j y (nth-last xs x j y i) }
+  begins = ends-at n q (h .begins);
+  first = ends-other n q (h .begins) 0 (λ i. omega (arith, i)) ∙ h .first;
+  last = ends-last n q (h .begins) (count (xs ++ x ∷ [])) (count-snoc xs x);
+  word = λ j l. word-at j (ℕ-discrete j n) (subst (λ m. j < m) (count-snoc xs x) l);
+  item = λ j y i. item-at j y (nth-last xs x j y i);
+}
   where
     n : ℕ
     n = count xs

@@ -54,13 +54,21 @@ fn node(src: &[u8], index: &[u64], at: usize, n: Counts, k: Part, i: usize) -> P
             src,
             index,
             at,
-            Counts { names: n.names, types: i, exprs: n.exprs },
+            Counts {
+                names: n.names,
+                types: i,
+                exprs: n.exprs,
+            },
         ),
         Part::Exprs => nodes::expr_node(
             src,
             index,
             at,
-            Counts { names: n.names, types: n.types, exprs: i },
+            Counts {
+                names: n.names,
+                types: n.types,
+                exprs: i,
+            },
         ),
         Part::Decls => nodes::decl_entry(src, index, at, n),
     }
