@@ -13,7 +13,7 @@ use Rattle.names.specs.Keys.{bytesOf, keyNumber, Pushed}
 use Rattle.names.proofs.Tests.{lt-yes, lt-no}
 
 -- Where there is room for one byte more, the number is 256 times as large.
-more-room : (k : ℕ) (cs : List ℕ) → length cs ≤ k → packed (suc k) cs ≡ 256 * packed k cs
+pub more-room : (k : ℕ) (cs : List ℕ) → length cs ≤ k → packed (suc k) cs ≡ 256 * packed k cs
 unfolding packed
 more-room zero [] h = refl
 more-room zero (c ∷ cs) h = absurd (omega arith)
@@ -32,7 +32,7 @@ up c = go (2 ^ 248)
     go B = omega arith
 
 -- What `push` makes of the bytes cs is c and then cs.
-pushed : (cs : List ℕ) (k r : Key) (c : ℕ) → length cs ≤ 31 → bytesOf k ≡ packed 32 cs → Pushed k c r → bytesOf r ≡ packed 32 (c ∷ cs)
+pub pushed : (cs : List ℕ) (k r : Key) (c : ℕ) → length cs ≤ 31 → bytesOf k ≡ packed 32 cs → Pushed k c r → bytesOf r ≡ packed 32 (c ∷ cs)
 unfolding packed
 pushed cs k r c h e p = cancel (bytesOf k) (bytesOf r) (c * 2 ^ 248) (packed 31 cs) (p .out) (p .small) (p .shifted ∙ ap (λ (x : ℕ). x + bytesOf k) (up c)) (e ∙ more-room 31 cs h)
 
@@ -83,7 +83,7 @@ one-spelled k n e r h s p = go (s .fuel) (s .enough) (s .long) (s .spelled)
     }
 
 -- The number of a key whose first word is zero.
-alone : (k : Key) → k .over ≡ 0 → keyNumber k ≡ bytesOf k
+pub alone : (k : Key) → k .over ≡ 0 → keyNumber k ≡ bytesOf k
 unfolding keyNumber bytesOf
 alone k h = rw h (go (2 ^ 256) (bytesOf k))
   where

@@ -58,7 +58,7 @@ fn shift(high: u64, low: u64) -> u64
 }
 
 // A byte put before the others of 32, the last of which falls out.
-fn push(k: Key, byte: u64) -> Key
+pub fn push(k: Key, byte: u64) -> Key
     requires { ⌜ byte < 256 ⌝ }
     ensures { λ r. ⌜ Pushed k byte r ⌝ }
 {
@@ -163,7 +163,7 @@ fn less(p: Key, q: Key) -> bool
 }
 
 // The numbers are equal: all words are.
-fn same(p: Key, q: Key) -> bool
+pub fn same(p: Key, q: Key) -> bool
     ensures { λ r. ⌜ r ≡ eqb (keyNumber p) (keyNumber q) ⌝ }
 {
     if p.over != q.over {

@@ -1,0 +1,4 @@
+pub mod BuiltIns
+pub mod Rows
+pub mod Entries
+pub mod Tables
