@@ -54,14 +54,25 @@ fn say(r: Reading) {
     io::write_all(STDOUT_FILENO, b"\n");
 }
 
-// One file. Answers whether to go on.
-fn one(buf: &mut [u8], names: &mut [u64; 4236], index: &mut [u64; 10752]) -> bool {
+// The length of the next file; more than any file has where the input ends.
+fn next_length() -> usize {
     let mut head = [0u8; 4];
     let h = io::read_full(STDIN_FILENO, &mut head);
     if h < 4 {
-        return false;
+        return 1000000;
     }
-    let n = length_of(head);
+    length_of(head)
+}
+
+// Reads a file and says what it is.
+fn answer(src: &[u8], names: &mut [u64; 4236], index: &mut [u64; 10752]) {
+    let r = file::read(src, names, index);
+    say(r);
+}
+
+// One file. Answers whether to go on.
+fn one(buf: &mut [u8], names: &mut [u64; 4236], index: &mut [u64; 10752]) -> bool {
+    let n = next_length();
     if buf.len() < n {
         return false;
     }
@@ -69,8 +80,7 @@ fn one(buf: &mut [u8], names: &mut [u64; 4236], index: &mut [u64; 10752]) -> boo
     if got < n {
         return false;
     }
-    let r = file::read(&buf[..n], names, index);
-    say(r);
+    answer(&buf[..n], names, index);
     true
 }
 
