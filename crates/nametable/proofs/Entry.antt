@@ -22,7 +22,8 @@ use Rattle.reader.proofs.Fields.{field-is, field-cut}
 use Rattle.reader.proofs.Counts.{item-got, item-fails, item-bad, passed, failed}
 use Rattle.reader.proofs.Sequence.{stops}
 use Rattle.nametable.specs.declared.Spot.the-variants.{Text, Wrong}
-use Rattle.nametable.specs.Entries.{among, TextAt, Spotted}
+use Rattle.rows.specs.Rows.{among}
+use Rattle.nametable.specs.Entries.{TextAt, Spotted}
 
 -- ## the length
 -- A field that was read, by what the code has of it.

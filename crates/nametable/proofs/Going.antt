@@ -14,10 +14,10 @@ use Rattle.errors.specs.Refusals.{refusalOf}
 use Rattle.names.specs.Names.{row}
 use Rattle.reader.specs.declared.Place.{Place}
 use Rattle.reader.specs.declared.Place.the-variants.{Next, Bad}
-use Rattle.nametable.specs.Rows.{namesFrom}
+use Rattle.rows.specs.Rows.{namesFrom}
 use Rattle.nametable.specs.Entries.{Form, Took, Taken}
 use Rattle.nametable.specs.Tables.{Holds, Apart, ReadUpTo, ReadAll}
-use Rattle.nametable.proofs.Listed.{names-snoc, names-stand}
+use Rattle.rows.proofs.Listed.{names-snoc, names-stand}
 
 -- ## items
 -- One item more is read.

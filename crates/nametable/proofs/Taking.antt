@@ -31,10 +31,10 @@ use Rattle.spelling.proofs.Spelled.{all-first}
 use Rattle.spelling.proofs.Texts.{text-length}
 use Rattle.nametable.specs.declared.Spot.{Spot}
 use Rattle.nametable.specs.declared.Spot.the-variants.{Text, Wrong}
-use Rattle.nametable.specs.Rows.{rowSet, namesFrom}
-use Rattle.nametable.specs.Entries.{among, TextAt, Spotted, Form, Coded, codeOf, Entered, Took, Taken}
-use Rattle.nametable.proofs.Cells.{row-same, row-other}
-use Rattle.nametable.proofs.Listed.{none-same}
+use Rattle.rows.specs.Rows.{rowSet, namesFrom, among}
+use Rattle.nametable.specs.Entries.{TextAt, Spotted, Form, Coded, codeOf, Entered, Took, Taken}
+use Rattle.rows.proofs.Cells.{row-same, row-other}
+use Rattle.rows.proofs.Listed.{none-same}
 
 -- A name and its form are written.
 pub entered : (ns ix ns′ : List ℕ) (i w : ℕ) (k : Key) (f : S.Form) → ns′ ≡ rowSet ns (35 + i) k → Coded f w → Entered ns ix ns′ (set ix (1_024 + i) w) i k f

@@ -13,8 +13,7 @@ use Rattle.names.specs.Names.{row}
 use Rattle.names.specs.Keys.{bytesOf}
 use Rattle.names.proofs.Tests.{eq-yes, eq-no}
 use Rattle.theorems.proofs.Tests.{yes?-of, no?-of, eqb-true, eqb-false, none-some, some-inj}
-use Rattle.nametable.specs.Rows.{namesFrom}
-use Rattle.nametable.specs.Entries.{among}
+use Rattle.rows.specs.Rows.{namesFrom, among}
 
 -- ## names of rows
 -- The first of them.

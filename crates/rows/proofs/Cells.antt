@@ -14,7 +14,7 @@ use Rattle.names.specs.Keys.{four, bytesOf, keyNumber}
 use Rattle.names.proofs.Words.{four-places}
 use Rattle.names.proofs.Digits.{alone}
 use Rattle.names.proofs.Order.{Fit, SameWords, unequal, d-tells}
-use Rattle.nametable.specs.Rows.{rowSet, RowIs, Words}
+use Rattle.rows.specs.Rows.{rowSet, RowIs, Words}
 
 -- ## a row that is written
 module _ (ns : List ℕ) (r : ℕ) (k : Key) where
