@@ -1,5 +1,5 @@
 -- The whole table: no two rows are equal, and each name is found by its number.
-use mathlib.Core.Path.{_≡_, refl, sym, ap, _∙_, subst}
+use mathlib.Core.Path.{_≡_, sym, ap, _∙_, subst}
 use mathlib.Core.List.{List}
 use mathlib.Core.Option.{some}
 use Prim.Native.Nat.{ℕ, _+_, _-_, _*_, _^_, _<_, _≤_}
@@ -15,10 +15,10 @@ use Rattle.theorems.proofs.Tests.{some-inj}
 use Rattle.reader.specs.declared.Place.{Place}
 use Rattle.reader.specs.declared.Place.the-variants.{Next, Bad}
 use Rattle.errors.specs.declared.Refusal as E
-use Rattle.rows.specs.BuiltIns.{built-ins, BuiltIns}
+use Rattle.rows.specs.BuiltIns.{built-ins}
 use Rattle.rows.specs.Rows.{namesFrom, Filled, Words}
 use Rattle.nametable.specs.Entries.{Form}
-use Rattle.nametable.specs.Tables.{Holds, ReadUpTo, ReadAll, Number, own, built, AllBound, NameKnown, SectionRead, NamesRead}
+use Rattle.nametable.specs.Tables.{ReadUpTo, ReadAll, Number, own, built, AllBound, NameKnown, SectionRead, NamesRead}
 use Rattle.rows.proofs.Listed.{Nth, names-nth, names-count}
 use Rattle.rows.proofs.Start.{built-full, built-apart, built-below}
 

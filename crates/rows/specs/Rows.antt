@@ -3,7 +3,7 @@ use mathlib.Core.Path.{_≡_}
 use mathlib.Core.Bool.{Bool}
 use mathlib.Core.List.{List, [], _∷_}
 use Prim.Native.Nat.{ℕ, suc, zero, _+_, _*_, _^_, _<_}
-use lib.ListN.{set, getD, length}
+use lib.ListN.{set, getD}
 use Rattle.meaning.specs.Base.{yes?, any}
 use Rattle.meaning.specs.Ast.{Name, name, same-name}
 use Rattle.names.specs.declared.Key.{Key}

@@ -1,6 +1,5 @@
 -- `rows::fill` meets its contract. The loop's invariant: the rows before r are written. Assumes nothing.
 use Prim.Native.Nat.{_-_}
-use mathlib.Core.Path.{sym, _∙_}
 use native.Mathlib.Omega.{arith}
 use borrow.Author.Needs.{needs}
 use Rattle.rows.proofs.Start.{Filling, none-filled, one-filled, all-filled}
