@@ -15,9 +15,9 @@ use Rattle.names.specs.Names.{row}
 use Rattle.names.specs.Keys.{bytesOf, four}
 use Rattle.theorems.proofs.Tests.{eqb-true, eqb-false, ltb-false, none-some}
 use Rattle.theorems.proofs.Grown.{nth-below}
-use Rattle.nametable.specs.BuiltIns.{built-ins, First}
-use Rattle.nametable.specs.Rows.{rowSet, Filled}
-use Rattle.nametable.proofs.Cells.{row-same, row-other, row-length}
+use Rattle.rows.specs.BuiltIns.{built-ins, First}
+use Rattle.rows.specs.Rows.{rowSet, Filled}
+use Rattle.rows.proofs.Cells.{row-same, row-other, row-length}
 
 -- ## computed tests
 -- A test passes for all numbers below a bound.

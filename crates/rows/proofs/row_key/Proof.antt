@@ -1,8 +1,8 @@
--- `nametable::row_key` meets its contract. Assumes nothing.
-use Rattle.nametable.proofs.Cells.{row-read}
+-- `rows::row_key` meets its contract. Assumes nothing.
+use Rattle.rows.proofs.Cells.{row-read}
 use borrow.Author.Needs.{needs}
-use Rattle.nametable.proofs.row_key.Statement.{statement}
-use Rattle.nametable.proofs.row_key.Tie as tie
+use Rattle.rows.proofs.row_key.Statement.{statement}
+use Rattle.rows.proofs.row_key.Tie as tie
 
 mul-i : tie.Need-mul-i
 mul-i c = search needs

@@ -1,10 +1,10 @@
--- `nametable::same_row` meets its contract: the first words that differ decide. Assumes nothing.
+-- `rows::same_row` meets its contract: the first words that differ decide. Assumes nothing.
 use mathlib.Core.Path.{sym, _∙_}
 use native.Mathlib.Omega.{arith}
-use Rattle.nametable.proofs.Cells.{row-differs, row-last}
+use Rattle.rows.proofs.Cells.{row-differs, row-last}
 use borrow.Author.Needs.{needs}
-use Rattle.nametable.proofs.same_row.Statement.{statement}
-use Rattle.nametable.proofs.same_row.Tie as tie
+use Rattle.rows.proofs.same_row.Statement.{statement}
+use Rattle.rows.proofs.same_row.Tie as tie
 
 mul-i : tie.Need-mul-i
 mul-i c = search needs

@@ -8,13 +8,10 @@ use native.Mathlib.Decide.{ℕ-discrete}
 use native.Mathlib.Omega.{arith}
 use Rattle.meaning.specs.Base.{yes?, if, eqb, any, count, nth}
 use Rattle.meaning.specs.Ast.{Name, name, same-name}
-use Rattle.names.specs.declared.Key.{Key}
 use Rattle.names.specs.Names.{row}
-use Rattle.names.specs.Keys.{bytesOf}
 use Rattle.names.proofs.Tests.{eq-yes, eq-no}
-use Rattle.theorems.proofs.Tests.{yes?-of, no?-of, eqb-true, eqb-false, none-some, some-inj}
-use Rattle.nametable.specs.Rows.{namesFrom}
-use Rattle.nametable.specs.Entries.{among}
+use Rattle.theorems.proofs.Tests.{yes?-of, no?-of, eqb-false, none-some, some-inj}
+use Rattle.rows.specs.Rows.{namesFrom, among}
 
 -- ## names of rows
 -- The first of them.

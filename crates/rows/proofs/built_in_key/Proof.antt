@@ -1,8 +1,8 @@
--- `nametable::built_in_key` meets its contract: the constant table holds the built-in names. Assumes nothing.
-use Rattle.nametable.proofs.Start.{first-words, built-key}
+-- `rows::built_in_key` meets its contract: the constant table holds the built-in names. Assumes nothing.
+use Rattle.rows.proofs.Start.{first-words, built-key}
 use borrow.Author.Needs.{needs}
-use Rattle.nametable.proofs.built_in_key.Statement.{statement}
-use Rattle.nametable.proofs.built_in_key.Tie as tie
+use Rattle.rows.proofs.built_in_key.Statement.{statement}
+use Rattle.rows.proofs.built_in_key.Tie as tie
 
 mul-i : tie.Need-mul-i
 mul-i c = search needs

@@ -1,15 +1,17 @@
 -- Rows of a table of names: four words each.
 use mathlib.Core.Path.{_≡_}
+use mathlib.Core.Bool.{Bool}
 use mathlib.Core.List.{List, [], _∷_}
 use Prim.Native.Nat.{ℕ, suc, zero, _+_, _*_, _^_, _<_}
-use lib.ListN.{set, getD, length}
-use Rattle.meaning.specs.Ast.{Name, name}
+use lib.ListN.{set, getD}
+use Rattle.meaning.specs.Base.{yes?, any}
+use Rattle.meaning.specs.Ast.{Name, name, same-name}
 use Rattle.names.specs.declared.Key.{Key}
 use Rattle.names.specs.Names.{row}
 use Rattle.names.specs.Keys.{bytesOf}
-use Rattle.nametable.specs.declared.Built.{Built}
-use Rattle.nametable.specs.declared.Built.the-variants.{At, Nothing}
-use Rattle.nametable.specs.BuiltIns.{First}
+use Rattle.rows.specs.declared.Built.{Built}
+use Rattle.rows.specs.declared.Built.the-variants.{At, Nothing}
+use Rattle.rows.specs.BuiltIns.{First}
 
 -- The words with a row written.
 unfoldable pub rowSet : List ℕ → ℕ → Key → List ℕ
@@ -23,6 +25,10 @@ pub record RowIs (ns : List ℕ) (r : ℕ) (k : Key) : Type 0 where
 unfoldable pub namesFrom : List ℕ → (r k : ℕ) → List Name
 namesFrom ns r zero = []
 namesFrom ns r (suc k) = name (row ns r) ∷ namesFrom ns (r + 1) k
+
+-- One of the names is this one.
+unfoldable pub among : Name → List Name → Bool
+among x ys = any (λ y. yes? (same-name x y)) ys
 
 -- The table before a file is read.
 pub record Filled (ns : List ℕ) : Type 0 where

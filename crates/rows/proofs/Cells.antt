@@ -1,8 +1,8 @@
 -- Rows that are written and compared.
 use mathlib.Core.Path.{_≡_, refl, sym, ap, _∙_}
-use mathlib.Core.Bool.{true, false}
+use mathlib.Core.Bool.{false}
 use mathlib.Core.List.{List}
-use Prim.Native.Nat.{ℕ, _+_, _*_, _^_, _<_, _≤_}
+use Prim.Native.Nat.{ℕ, _+_, _*_, _<_, _≤_}
 use native.Mathlib.Omega.{arith}
 use lib.ListN.{length, getD, set, length-set}
 use lib.Seq.{getD-set-same, getD-set-other}
@@ -14,7 +14,7 @@ use Rattle.names.specs.Keys.{four, bytesOf, keyNumber}
 use Rattle.names.proofs.Words.{four-places}
 use Rattle.names.proofs.Digits.{alone}
 use Rattle.names.proofs.Order.{Fit, SameWords, unequal, d-tells}
-use Rattle.nametable.specs.Rows.{rowSet, RowIs, Words}
+use Rattle.rows.specs.Rows.{rowSet, RowIs, Words}
 
 -- ## a row that is written
 module _ (ns : List ℕ) (r : ℕ) (k : Key) where

@@ -1,9 +1,9 @@
--- `nametable::is_known` meets its contract. The loop's invariant: the rows before r have other bytes. Assumes nothing.
+-- `rows::is_known` meets its contract. The loop's invariant: the rows before r have other bytes. Assumes nothing.
 use native.Mathlib.Omega.{arith}
 use Rattle.names.specs.Keys.{bytesOf}
-use Rattle.nametable.proofs.Listed.{Searched, none-searched, one-searched, one-found, all-searched}
-use Rattle.nametable.proofs.is_known.Statement.{statement}
-use Rattle.nametable.proofs.is_known.Tie as tie
+use Rattle.rows.proofs.Listed.{Searched, none-searched, one-searched, one-found, all-searched}
+use Rattle.rows.proofs.is_known.Statement.{statement}
+use Rattle.rows.proofs.is_known.Tie as tie
 
 abbrev Inv-loop : tie.InvT-loop
 Inv-loop names k m r₀ left₀ r left = Searched (bytesOf k) names m r left

@@ -1,11 +1,10 @@
--- `nametable::fill` meets its contract. The loop's invariant: the rows before r are written. Assumes nothing.
+-- `rows::fill` meets its contract. The loop's invariant: the rows before r are written. Assumes nothing.
 use Prim.Native.Nat.{_-_}
-use mathlib.Core.Path.{sym, _∙_}
 use native.Mathlib.Omega.{arith}
 use borrow.Author.Needs.{needs}
-use Rattle.nametable.proofs.Start.{Filling, none-filled, one-filled, all-filled}
-use Rattle.nametable.proofs.fill.Statement.{statement}
-use Rattle.nametable.proofs.fill.Tie as tie
+use Rattle.rows.proofs.Start.{Filling, none-filled, one-filled, all-filled}
+use Rattle.rows.proofs.fill.Statement.{statement}
+use Rattle.rows.proofs.fill.Tie as tie
 
 abbrev Inv-loop : tie.InvT-loop
 Inv-loop names₀ r₀ names r = Filling names r

@@ -1,4 +1,4 @@
--- `nametable::built_in` meets its contract. The loop's invariant: the rows before b have other bytes. Assumes nothing.
+-- `rows::built_in` meets its contract. The loop's invariant: the rows before b have other bytes. Assumes nothing.
 use mathlib.Core.Path.{_≡_, sym, _∙_}
 use Prim.Native.Nat.{ℕ, _<_, _-_}
 use native.Mathlib.Omega.{arith}
@@ -6,8 +6,8 @@ use borrow.Author.Count.{below-none, below-more}
 use Rattle.names.specs.Names.{row}
 use Rattle.names.specs.Keys.{bytesOf}
 use Rattle.theorems.proofs.Tests.{eqb-true, eqb-false}
-use Rattle.nametable.proofs.built_in.Statement.{statement}
-use Rattle.nametable.proofs.built_in.Tie as tie
+use Rattle.rows.proofs.built_in.Statement.{statement}
+use Rattle.rows.proofs.built_in.Tie as tie
 
 abbrev Inv-loop : tie.InvT-loop
 Inv-loop names k b₀ b = (j : ℕ) → j < b → row names j ≡ bytesOf k → ⊥

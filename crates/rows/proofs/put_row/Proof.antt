@@ -1,11 +1,11 @@
--- `nametable::put_row` meets its contract. Assumes nothing.
+-- `rows::put_row` meets its contract. Assumes nothing.
 use mathlib.Core.Path.{refl}
 use native.Mathlib.Omega.{arith}
 use lib.ListN.{length-set}
-use Rattle.nametable.specs.Rows.{rowSet}
+use Rattle.rows.specs.Rows.{rowSet}
 use borrow.Author.Needs.{needs}
-use Rattle.nametable.proofs.put_row.Statement.{statement}
-use Rattle.nametable.proofs.put_row.Tie as tie
+use Rattle.rows.proofs.put_row.Statement.{statement}
+use Rattle.rows.proofs.put_row.Tie as tie
 
 mul-i : tie.Need-mul-i
 mul-i c = search needs

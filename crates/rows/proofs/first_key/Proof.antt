@@ -1,8 +1,8 @@
--- `nametable::first_key` meets its contract. Assumes nothing.
-use Rattle.nametable.proofs.Start.{first-built, first-filler}
+-- `rows::first_key` meets its contract. Assumes nothing.
+use Rattle.rows.proofs.Start.{first-built, first-filler}
 use borrow.Author.Needs.{needs}
-use Rattle.nametable.proofs.first_key.Statement.{statement}
-use Rattle.nametable.proofs.first_key.Tie as tie
+use Rattle.rows.proofs.first_key.Statement.{statement}
+use Rattle.rows.proofs.first_key.Tie as tie
 
 built-in-key-requires : tie.Need-built-in-key-requires
 built-in-key-requires c κs = search needs
