@@ -136,8 +136,8 @@ fn bind_all(names: &mut [u64], index: &mut [u64], n: usize)
     }
 }
 
-// Reads n names from a place on into a table that holds the built-in names.
-pub fn read_section(src: &[u8], names: &mut [u64], index: &mut [u64], at: usize, n: usize) -> Place
+// Reads the n names of the names section from a place on: the table of names, and of each name its number and its form.
+pub fn read_names(src: &[u8], names: &mut [u64], index: &mut [u64], at: usize, n: usize) -> Place
     requires { ⌜ length (now names) ≡ 4236 ⌝ }
     requires { ⌜ length (now index) ≡ 10752 ⌝ }
     requires { ⌜ n ≤ 1024 ⌝ }
@@ -151,19 +151,4 @@ pub fn read_section(src: &[u8], names: &mut [u64], index: &mut [u64], at: usize,
     };
     bind_all(names, index, n);
     Place::Next(p)
-}
-
-// Reads the n names of the names section from a place on: the table of names, and of each name its number and its form.
-pub fn read_names(
-    src: &[u8],
-    names: &mut [u64; 4236],
-    index: &mut [u64; 10752],
-    at: usize,
-    n: usize,
-) -> Place
-    requires { ⌜ n ≤ 1024 ⌝ }
-    requires { ⌜ at ≤ length (now src) ⌝ }
-    ensures { λ r. ⌜ NamesRead (now (src .entry)) (now (index .entry)) (now (names .exit)) (now (index .exit)) at n r ⌝ }
-{
-    read_section(src, names, index, at, n)
 }

@@ -1,9 +1,9 @@
--- `nametable::read_section` meets its contract. Assumes nothing.
+-- `nametable::read_names` meets its contract. Assumes nothing.
 use native.Mathlib.Omega.{arith}
 use Rattle.nametable.proofs.Whole.{section-read, section-bad}
 use borrow.Author.Needs.{needs}
-use Rattle.nametable.proofs.read_section.Statement.{statement}
-use Rattle.nametable.proofs.read_section.Tie as tie
+use Rattle.nametable.proofs.read_names.Statement.{statement}
+use Rattle.nametable.proofs.read_names.Tie as tie
 
 fill-requires : tie.Need-fill-requires
 fill-requires c κs = search needs
@@ -38,8 +38,8 @@ same-length-4 c = search needs
 returns-2 : tie.Need-returns-2
 returns-2 c = section-read (omega arith) (c .before .before .before .before .before .before .before .before .before .before .before .before .before .before .before .before .before .before .before .fill .ensures) (c .before .before .before .before .before .before .before .before .before .before .before .before .before .before .read-all .ensures) (c .before .before .before .before .before .before .before .before .r .given .1) (c .before .before .before .before .bind-all .ensures) (record { below = λ i. omega (arith, (c .before .before .slice-known6 .given) i) }) (omega (arith, c .before .before .before .before .bind-all .kept .0, c .before .before .before .before .before .before .before .before .before .before .before .before .before .before .read-all .kept .1 .0, c .before .before .before .before .before .before .before .before .before .before .before .before .before .before .before .before .before .before .before .fill .kept .0))
 
-pub read-section-spec : {M : Type 1} → statement M
-read-section-spec =
+pub read-names-spec : {M : Type 1} → statement M
+read-names-spec =
     tie.close
     (tie.spec
     fill-requires
