@@ -10,7 +10,7 @@ use Rattle.meaning.specs.Reader.{got, bad, Reader}
 use Rattle.meaning.specs.File as M
 use Rattle.errors.specs.Refusals.{refusalOf}
 use Rattle.names.specs.Names.{Names}
-use Rattle.nametable.specs.BuiltIns.{BuiltIns}
+use Rattle.rows.specs.BuiltIns.{BuiltIns}
 use Rattle.nametable.specs.Tables.{NameKnown}
 use Rattle.sections.specs.Parts.{Placed}
 use Rattle.body.specs.declared.Reading as Code

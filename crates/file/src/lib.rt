@@ -19,7 +19,7 @@ fn read_all(src: &[u8], names: &mut [u64], index: &mut [u64]) -> Reading
     let c = reader::counted(src, 0, 1024);
     match c {
         Count::Is(a) => {
-            let p = nametable::read_section(src, names, index, 2, a);
+            let p = nametable::read_names(src, names, index, 2, a);
             match p {
                 Place::Next(q) => body::read_types(
                     src,

@@ -1,12 +1,12 @@
 -- One name of a file: its length, its text, and whether it was read before.
 use mathlib.Core.Path.{_≡_, refl, sym, ap, _∙_}
 use mathlib.Core.Bool.{Bool, true, false, not, _||_}
-use mathlib.Core.List.{List, []}
+use mathlib.Core.List.{List}
 use mathlib.Core.Option.{Option, none, some}
-use Prim.Native.Nat.{ℕ, zero, suc, _+_, _-_, _<_, _≤_}
+use Prim.Native.Nat.{ℕ, zero, suc, _+_, _<_, _≤_}
 use native.Mathlib.Omega.{arith}
 use lib.ListN.{length}
-use Rattle.meaning.specs.Base.{yes?, if, eqb, ltb, any}
+use Rattle.meaning.specs.Base.{yes?, eqb, ltb, any}
 use Rattle.meaning.specs.Text.{packed}
 use Rattle.meaning.specs.Ast.{Name, name, same-name}
 use Rattle.meaning.specs.Errors.{Refusal, format}
@@ -21,8 +21,10 @@ use Rattle.reader.specs.Verdicts.{IsField}
 use Rattle.reader.proofs.Fields.{field-is, field-cut}
 use Rattle.reader.proofs.Counts.{item-got, item-fails, item-bad, passed, failed}
 use Rattle.reader.proofs.Sequence.{stops}
+use Rattle.spelling.proofs.Loops.{was-true, was-false}
 use Rattle.nametable.specs.declared.Spot.the-variants.{Text, Wrong}
-use Rattle.nametable.specs.Entries.{among, TextAt, Spotted}
+use Rattle.rows.specs.Rows.{among}
+use Rattle.nametable.specs.Entries.{Spotted}
 
 -- ## the length
 -- A field that was read, by what the code has of it.
@@ -92,14 +94,6 @@ no-name bs e = rw e refl
 a-name : (bs : List ℕ) → all letter-of-name bs ≡ true → name-of bs ≡ some (name (packed 32 bs))
 unfolding name-of
 a-name bs e = rw e refl
-
-was-true : (r : Bool) → not r ≡ false → r ≡ true
-was-true true e = refl
-was-true false e = sym e
-
-was-false : (r : Bool) → not r ≡ true → r ≡ false
-was-false true e = sym e
-was-false false e = refl
 
 pub no-letters : (bytes : List ℕ) (at len : ℕ) (r : Bool) → IsField 1 bytes at (Is len) → (len ≡ 0 → ⊥) → len ≤ 32 → at + 1 + len ≤ length bytes
     → r ≡ all letter-of-name (text bytes (at + 1) len) → not r ≡ true → Spotted bytes at (Wrong (at + 1))

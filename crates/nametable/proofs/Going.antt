@@ -1,23 +1,23 @@
 -- The loop over the names of a file: what was read so far, and the first bad name.
 use mathlib.Core.Path.{_≡_, refl, sym, ap, _∙_, subst}
 use mathlib.Core.List.{List, [], _∷_, _++_}
-use Prim.Native.Nat.{ℕ, zero, suc, _+_, _-_, _^_, _<_, _≤_}
+use Prim.Native.Nat.{ℕ, suc, _+_, _-_, _^_, _<_, _≤_}
 use native.Mathlib.Decide.{ℕ-discrete}
 use native.Mathlib.Omega.{arith}
 use lib.ListN.{length, getD}
 use Rattle.meaning.specs.Ast.{Name, name}
 use Rattle.meaning.specs.Errors.{Refusal}
-use Rattle.meaning.specs.Reader.{Read, got, bad, Reader, onward, from, items}
+use Rattle.meaning.specs.Reader.{got, bad, Reader, onward, from, items}
 use Rattle.meaning.specs.File.{name-entry}
 use Rattle.errors.specs.declared.Refusal as E
 use Rattle.errors.specs.Refusals.{refusalOf}
 use Rattle.names.specs.Names.{row}
 use Rattle.reader.specs.declared.Place.{Place}
 use Rattle.reader.specs.declared.Place.the-variants.{Next, Bad}
-use Rattle.nametable.specs.Rows.{namesFrom}
+use Rattle.rows.specs.Rows.{namesFrom}
 use Rattle.nametable.specs.Entries.{Form, Took, Taken}
-use Rattle.nametable.specs.Tables.{Holds, Apart, ReadUpTo, ReadAll}
-use Rattle.nametable.proofs.Listed.{names-snoc, names-stand}
+use Rattle.nametable.specs.Tables.{Holds, Apart, ReadAll}
+use Rattle.rows.proofs.Listed.{names-snoc, names-stand}
 
 -- ## items
 -- One item more is read.

@@ -1,7 +1,4 @@
--- Laws of rows and of their names; the built-in names; one name; the loops; the whole table.
-pub mod Cells
-pub mod Listed
-pub mod Start
+-- Laws of one name, of the loops over names, and of the whole table.
 pub mod Entry
 pub mod Taking
 pub mod Going

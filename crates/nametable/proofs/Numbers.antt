@@ -9,12 +9,12 @@ use lib.Seq.{getD-set-same, getD-set-other}
 use Rattle.names.specs.declared.Key.{Key}
 use Rattle.names.specs.Names.{row}
 use Rattle.names.specs.Keys.{bytesOf}
-use Rattle.nametable.specs.declared.Built.{Built}
-use Rattle.nametable.specs.declared.Built.the-variants.{At, Nothing}
-use Rattle.nametable.specs.BuiltIns.{First}
-use Rattle.nametable.specs.Rows.{rowSet, RowIs, IsBuilt}
+use Rattle.rows.specs.declared.Built.{Built}
+use Rattle.rows.specs.declared.Built.the-variants.{At, Nothing}
+use Rattle.rows.specs.BuiltIns.{First}
+use Rattle.rows.specs.Rows.{rowSet, RowIs, IsBuilt}
 use Rattle.nametable.specs.Tables.{Number, own, built, Bound, AllBound}
-use Rattle.nametable.proofs.Cells.{row-same, row-other}
+use Rattle.rows.proofs.Cells.{row-same, row-other}
 
 -- ## one name
 -- It is no built-in name.

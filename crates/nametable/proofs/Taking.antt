@@ -2,25 +2,24 @@
 use mathlib.Core.Path.{_≡_, refl, sym, ap, _∙_, subst}
 use mathlib.Core.Bool.{Bool, true, false}
 use mathlib.Core.List.{List, [], _∷_}
-use mathlib.Core.Option.{Option, none, some}
-use Prim.Native.Nat.{ℕ, zero, suc, _+_, _*_, _^_, _<_, _≤_}
-use native.Mathlib.Nat.{mul-le-mul-right, le-trans}
+use mathlib.Core.Option.{some}
+use Prim.Native.Nat.{ℕ, _+_, _*_, _^_, _<_, _≤_}
+use native.Mathlib.Nat.{mul-le-mul-right}
 use native.Mathlib.Decide.{ℕ-discrete}
 use native.Mathlib.Omega.{arith}
 use lib.ListN.{length, getD, set}
 use lib.Seq.{getD-set-same, getD-set-other}
-use Rattle.meaning.specs.Base.{if, eqb}
+use Rattle.meaning.specs.Base.{eqb}
 use Rattle.meaning.specs.Text.{packed}
 use Rattle.meaning.specs.Ast.{Name, name}
 use Rattle.meaning.specs.Errors.{format}
-use Rattle.meaning.specs.Reserved.{letter-of-name, all, made-variable, made-name}
+use Rattle.meaning.specs.Reserved.{letter-of-name, all}
 use Rattle.meaning.specs.Reader.{got, bad, or-bad, unless, from}
 use Rattle.meaning.specs.File.{name-entry}
 use Rattle.errors.specs.declared.Refusal.the-variants.{Format}
 use Rattle.names.specs.declared.Key.{Key}
 use Rattle.names.specs.Names.{row}
 use Rattle.names.specs.Keys.{bytesOf}
-use Rattle.names.proofs.Tests.{eq-yes, eq-no}
 use Rattle.reader.specs.Bytes.{text}
 use Rattle.reader.specs.declared.Place.the-variants.{Next, Bad}
 use Rattle.spelling.specs.declared.Form as S
@@ -31,10 +30,10 @@ use Rattle.spelling.proofs.Spelled.{all-first}
 use Rattle.spelling.proofs.Texts.{text-length}
 use Rattle.nametable.specs.declared.Spot.{Spot}
 use Rattle.nametable.specs.declared.Spot.the-variants.{Text, Wrong}
-use Rattle.nametable.specs.Rows.{rowSet, namesFrom}
-use Rattle.nametable.specs.Entries.{among, TextAt, Spotted, Form, Coded, codeOf, Entered, Took, Taken}
-use Rattle.nametable.proofs.Cells.{row-same, row-other}
-use Rattle.nametable.proofs.Listed.{none-same}
+use Rattle.rows.specs.Rows.{rowSet, namesFrom, among}
+use Rattle.nametable.specs.Entries.{TextAt, Spotted, Form, Coded, codeOf, Entered, Taken}
+use Rattle.rows.proofs.Cells.{row-same, row-other}
+use Rattle.rows.proofs.Listed.{none-same}
 
 -- A name and its form are written.
 pub entered : (ns ix ns′ : List ℕ) (i w : ℕ) (k : Key) (f : S.Form) → ns′ ≡ rowSet ns (35 + i) k → Coded f w → Entered ns ix ns′ (set ix (1_024 + i) w) i k f

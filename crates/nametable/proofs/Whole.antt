@@ -1,5 +1,5 @@
 -- The whole table: no two rows are equal, and each name is found by its number.
-use mathlib.Core.Path.{_≡_, refl, sym, ap, _∙_, subst}
+use mathlib.Core.Path.{_≡_, sym, ap, _∙_, subst}
 use mathlib.Core.List.{List}
 use mathlib.Core.Option.{some}
 use Prim.Native.Nat.{ℕ, _+_, _-_, _*_, _^_, _<_, _≤_}
@@ -15,12 +15,12 @@ use Rattle.theorems.proofs.Tests.{some-inj}
 use Rattle.reader.specs.declared.Place.{Place}
 use Rattle.reader.specs.declared.Place.the-variants.{Next, Bad}
 use Rattle.errors.specs.declared.Refusal as E
-use Rattle.nametable.specs.BuiltIns.{built-ins, BuiltIns}
-use Rattle.nametable.specs.Rows.{namesFrom, Filled, Words}
+use Rattle.rows.specs.BuiltIns.{built-ins}
+use Rattle.rows.specs.Rows.{namesFrom, Filled, Words}
 use Rattle.nametable.specs.Entries.{Form}
-use Rattle.nametable.specs.Tables.{Holds, ReadUpTo, ReadAll, Number, own, built, AllBound, NameKnown, SectionRead, NamesRead}
-use Rattle.nametable.proofs.Listed.{Nth, names-nth, names-count}
-use Rattle.nametable.proofs.Start.{built-full, built-apart, built-below}
+use Rattle.nametable.specs.Tables.{ReadUpTo, ReadAll, Number, own, built, AllBound, NameKnown, SectionRead, NamesRead}
+use Rattle.rows.proofs.Listed.{Nth, names-nth, names-count}
+use Rattle.rows.proofs.Start.{built-full, built-apart, built-below}
 
 -- What a row of the table holds: a built-in name; its own number; or a name of the file that is no built-in name.
 data Content (ns : List ℕ) (m r : ℕ) : Type 0 where

@@ -1,12 +1,12 @@
 -- One name of a file: where its text stands, and how it is taken into the table.
 use mathlib.Core.Path.{_≡_}
-use mathlib.Core.Bool.{Bool, true}
+use mathlib.Core.Bool.{true}
 use mathlib.Core.List.{List, []}
 use Prim.Native.Nat.{ℕ, _+_, _^_, _<_, _≤_}
 use lib.ListN.{length, getD, set}
-use Rattle.meaning.specs.Base.{yes?, eqb, any}
+use Rattle.meaning.specs.Base.{eqb}
 use Rattle.meaning.specs.Text.{packed}
-use Rattle.meaning.specs.Ast.{Name, name, same-name}
+use Rattle.meaning.specs.Ast.{Name, name}
 use Rattle.meaning.specs.Errors.{format}
 use Rattle.meaning.specs.Reserved.{letter-of-name, all, made-variable, made-name}
 use Rattle.meaning.specs.Reader.{got, bad, or-bad, unless, from}
@@ -21,11 +21,7 @@ use Rattle.reader.specs.declared.Place.{Place}
 use Rattle.reader.specs.declared.Place.the-variants.{Next, Bad}
 use Rattle.nametable.specs.declared.Spot.{Spot}
 use Rattle.nametable.specs.declared.Spot.the-variants.{Text, Wrong}
-use Rattle.nametable.specs.Rows.{namesFrom, rowSet}
-
--- One of the names is this one.
-unfoldable pub among : Name → List Name → Bool
-among x ys = any (λ y. yes? (same-name x y)) ys
+use Rattle.rows.specs.Rows.{rowSet, namesFrom, among}
 
 -- A text of so many letters stands after its length: it is a name unless it was read before.
 pub record TextAt (bytes : List ℕ) (at len : ℕ) : Type 0 where

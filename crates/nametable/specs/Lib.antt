@@ -1,4 +1,2 @@
-pub mod BuiltIns
-pub mod Rows
 pub mod Entries
 pub mod Tables

@@ -12,8 +12,8 @@ use Rattle.errors.specs.Refusals.{refusalOf}
 use Rattle.names.specs.Names.{row, nameOf, Names}
 use Rattle.reader.specs.declared.Place.{Place}
 use Rattle.reader.specs.declared.Place.the-variants.{Next, Bad}
-use Rattle.nametable.specs.BuiltIns.{BuiltIns}
-use Rattle.nametable.specs.Rows.{namesFrom}
+use Rattle.rows.specs.BuiltIns.{BuiltIns}
+use Rattle.rows.specs.Rows.{namesFrom}
 use Rattle.nametable.specs.Entries.{Form}
 
 -- A table that holds m names of a file from row 35 on, no two equal, each with its form in the index.

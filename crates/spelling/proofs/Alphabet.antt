@@ -3,7 +3,7 @@ use mathlib.Core.Path.{_≡_, refl}
 use mathlib.Core.Bool.{Bool, true, false, not, _||_}
 use Prim.Native.Nat.{ℕ, _<_, _≤_}
 use native.Mathlib.Omega.{arith}
-use Rattle.meaning.specs.Base.{eqb, ltb}
+use Rattle.meaning.specs.Base.{ltb}
 use Rattle.meaning.specs.Reserved.{between, digit, letter-of-name}
 use Rattle.names.proofs.Tests.{lt-yes, lt-no, eq-yes, eq-no}
 use Rattle.theorems.proofs.Tests.{ltb-false, eqb-true, or-cases}

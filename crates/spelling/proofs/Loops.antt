@@ -1,10 +1,10 @@
 -- The loops over a text: what is left of it decides, and what was packed of it stands at the end.
 use mathlib.Core.Path.{_≡_, refl, sym, ap, _∙_}
 use mathlib.Core.Bool.{Bool, true, false, not}
-use mathlib.Core.List.{List, [], _∷_}
+use mathlib.Core.List.{List, _∷_}
 use Prim.Native.Nat.{ℕ, zero, suc, _+_, _-_, _<_, _≤_}
 use native.Mathlib.Omega.{arith}
-use lib.ListN.{length, getD}
+use lib.ListN.{getD}
 use Rattle.meaning.specs.Text.{packed}
 use Rattle.meaning.specs.Reserved.{all, digit, digits}
 use Rattle.meaning.specs.Base.{null, any}
@@ -27,11 +27,11 @@ pub none-passed : (f : ℕ → Bool) (bytes : List ℕ) (at len : ℕ) → Passe
 none-passed f bytes at len = record { ends = refl; same = refl }
 
 -- What a turned test says of the test.
-was-true : (r : Bool) → not r ≡ false → r ≡ true
+pub was-true : (r : Bool) → not r ≡ false → r ≡ true
 was-true true e = refl
 was-true false e = sym e
 
-was-false : (r : Bool) → not r ≡ true → r ≡ false
+pub was-false : (r : Bool) → not r ≡ true → r ≡ false
 was-false true e = sym e
 was-false false e = refl
 

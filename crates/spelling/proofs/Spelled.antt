@@ -1,13 +1,13 @@
 -- A name's spelling is its text: packed bytes are found again, and the zeros after them are dropped.
 use mathlib.Core.Path.{_≡_, refl, sym, ap, _∙_}
 use mathlib.Core.Bool.{Bool, true, false, not}
-use mathlib.Core.List.{List, [], _∷_, _++_}
+use mathlib.Core.List.{List, [], _∷_, _++_, append-nil}
 use Prim.Native.Nat.{ℕ, zero, suc, _+_, _*_, _/_, _%_, _^_, _<_, _≤_}
 use native.Mathlib.Nat.{pow-succ'}
 use native.Mathlib.Omega.{arith}
 use native.Mathlib.Decide.{ℕ-discrete}
 use lib.ListN.{length}
-use Rattle.meaning.specs.Base.{if, eqb, any}
+use Rattle.meaning.specs.Base.{if, any}
 use Rattle.meaning.specs.Text.{packed, unpacked}
 use Rattle.meaning.specs.Ast.{name}
 use Rattle.meaning.specs.Reserved.{letter-of-name, all, spelling}
@@ -112,12 +112,7 @@ unpack-packed (suc k) [] ds h e = unpack-zero (suc k) ds
 unpack-packed (suc k) (c ∷ cs) ds h e = let p = all-first letter-of-name c cs e in
     unpack-parts k c (packed k cs) ds (packed-below k cs (p .1)) ∙ ap (unpacked 1 c) (unpack-packed k cs ds (omega arith) (p .1)) ∙ unpack-one c (cs ++ ds) (letter-fits c (p .0))
 
--- Nothing follows.
-pub none-more : (cs : List ℕ) → cs ++ [] ≡ cs
-none-more [] = refl
-none-more (c ∷ cs) = ap (λ (ds : List ℕ). c ∷ ds) (none-more cs)
-
 -- The spelling of a name of that text is the text.
 pub spelled : (cs : List ℕ) → length cs ≤ 32 → all letter-of-name cs ≡ true → spelling (name (packed 32 cs)) ≡ cs
 unfolding spelling
-spelled cs h e = unpack-packed 32 cs [] h e ∙ none-more cs
+spelled cs h e = unpack-packed 32 cs [] h e ∙ append-nil cs

@@ -7,7 +7,7 @@ use Rattle.file.proofs.read_all.Tie as tie
 use Rattle.file.proofs.read_all.Reads as reads
 use Rattle.file.proofs.read_all.Lts as lts
 use Rattle.body.proofs.read_types.Reads as read-types-reads
-use Rattle.nametable.proofs.read_section.Reads as read-section-reads
+use Rattle.nametable.proofs.read_names.Reads as read-names-reads
 use Rattle.reader.proofs.counted.Reads as counted-reads
 
 -- src/lib.rt:19:9
@@ -19,8 +19,8 @@ enum-known-c : tie.Need-enum-known-c
 enum-known-c c = search needs
 
 -- src/lib.rt:22:17
-read-section-requires : tie.Need-read-section-requires
-read-section-requires c κs = let p = rw (c .before .before .before .c .given .1) at (c .before .before .before .before .before .counted .ensures) in (c .before .before .before .before .before .before .before .before .before .pre .1 .0, (c .before .before .before .before .before .before .before .before .before .pre .1 .1, (p .is .1, p .is .2)))
+read-names-requires : tie.Need-read-names-requires
+read-names-requires c κs = let p = rw (c .before .before .before .c .given .1) at (c .before .before .before .before .before .counted .ensures) in (c .before .before .before .before .before .before .before .before .before .pre .1 .0, (c .before .before .before .before .before .before .before .before .before .pre .1 .1, (p .is .1, p .is .2)))
 
 -- src/lib.rt:24:29
 enum-known-p : tie.Need-enum-known-p
@@ -28,13 +28,13 @@ enum-known-p c = search needs
 
 -- src/lib.rt:24:35
 read-types-requires : tie.Need-read-types-requires
-read-types-requires c κs = let p = rw (c .before .before .before .before .before .before .before .before .before .before .before .before .c .given .1) at (c .before .before .before .before .before .before .before .before .before .before .before .before .before .before .counted .ensures) in (p .is .1, (let z = c .before .before .before .before .before .before .before .before .read-section .kept .1 in let q = c .before .before .before .before .before .before .before .before .before .before .before .before .before .before .before .before .before .before .pre .1 .1 in omega arith))
+read-types-requires c κs = let p = rw (c .before .before .before .before .before .before .before .before .before .before .before .before .c .given .1) at (c .before .before .before .before .before .before .before .before .before .before .before .before .before .before .counted .ensures) in (p .is .1, (let z = c .before .before .before .before .before .before .before .before .read-names .kept .1 in let q = c .before .before .before .before .before .before .before .before .before .before .before .before .before .before .before .before .before .before .pre .1 .1 in omega arith))
 
--- src/lib.rt:30:28
+-- src/lib.rt:34:28
 enum-known-p-2 : tie.Need-enum-known-p-2
 enum-known-p-2 c = search needs
 
--- src/lib.rt:33:20
+-- src/lib.rt:37:20
 enum-known-c-2 : tie.Need-enum-known-c-2
 enum-known-c-2 c = search needs
 
@@ -48,7 +48,7 @@ same-length-2 c = search needs
 
 -- src/lib.rt:13:1
 returns : tie.Need-returns
-returns c = names-on _ _ _ _ _ (c .before .before .before .before .before .before .before .before .before .before .before .before .before .before .before .before .before .before .before .before .before .pre .0) _ (rw (c .before .before .before .before .before .before .before .before .before .before .before .before .before .before .before .c .given .1) at (c .before .before .before .before .before .before .before .before .before .before .before .before .before .before .before .before .before .counted .ensures)) _ _ (rw (c .before .before .before .before .before .p .given .1) at (c .before .before .before .before .before .before .before .before .before .before .before .read-section .ensures)) (c .before .before .read-types .ensures)
+returns c = names-on _ _ _ _ _ (c .before .before .before .before .before .before .before .before .before .before .before .before .before .before .before .before .before .before .before .before .before .pre .0) _ (rw (c .before .before .before .before .before .before .before .before .before .before .before .before .before .before .before .c .given .1) at (c .before .before .before .before .before .before .before .before .before .before .before .before .before .before .before .before .before .counted .ensures)) _ _ (rw (c .before .before .before .before .before .p .given .1) at (c .before .before .before .before .before .before .before .before .before .before .before .read-names .ensures)) (c .before .before .read-types .ensures)
 
 -- src/lib.rt:13:1
 same-length-3 : tie.Need-same-length-3
@@ -60,7 +60,7 @@ same-length-4 c = search needs
 
 -- src/lib.rt:13:1
 returns-2 : tie.Need-returns-2
-returns-2 c = names-bad _ _ _ _ _ (c .before .before .before .before .before .before .before .before .before .before .before .before .before .before .before .before .before .pre .0) _ (rw (c .before .before .before .before .before .before .before .before .before .before .before .c .given .1) at (c .before .before .before .before .before .before .before .before .before .before .before .before .before .counted .ensures)) _ (rw (c .before .p2 .given .1) at (c .before .before .before .before .before .before .before .read-section .ensures))
+returns-2 c = names-bad _ _ _ _ _ (c .before .before .before .before .before .before .before .before .before .before .before .before .before .before .before .before .before .pre .0) _ (rw (c .before .before .before .before .before .before .before .before .before .before .before .c .given .1) at (c .before .before .before .before .before .before .before .before .before .before .before .before .before .counted .ensures)) _ (rw (c .before .p2 .given .1) at (c .before .before .before .before .before .before .before .read-names .ensures))
 
 -- src/lib.rt:13:1
 returns-3 : tie.Need-returns-3
@@ -72,7 +72,7 @@ read-all-spec =
     (tie.spec
     counted-requires
     enum-known-c
-    read-section-requires
+    read-names-requires
     enum-known-p
     read-types-requires
     enum-known-p-2

@@ -1,6 +1,5 @@
 -- `nametable::read_all` meets its contract. The loop's invariant: the first i names stand in their rows. Assumes nothing.
 use Prim.Native.Nat.{_-_}
-use mathlib.Core.Path.{_∙_}
 use native.Mathlib.Omega.{arith}
 use borrow.Author.Needs.{needs}
 use Rattle.nametable.proofs.Going.{Going, none-read, one-read, one-bad, all-read}
