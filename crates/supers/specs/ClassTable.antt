@@ -1,6 +1,7 @@
 -- The class table: for the class of name c, word 2 * c is a place and word 2 * c + 1 a count; from that place on stand the
 -- names of its superclasses, in declared order.
 use mathlib.Core.Path.{_≡_}
+use mathlib.Core.Bool.{Bool, _&&_}
 use mathlib.Core.List.{List, [], _∷_, map}
 use Prim.Native.Nat.{ℕ, zero, suc, _+_, _*_, _-_}
 use lib.Dec.{ltb}
@@ -11,10 +12,15 @@ use Rattle.names.specs.Names.{nameOf}
 use Rattle.pairs.specs.declared.Found.{Found}
 use Rattle.pairs.specs.declared.Found.the-variants.{At, Nothing}
 
+-- A class is declared where its row leads to a place after the row. So no word after the rows is taken for a row: the words
+-- there are names that have rows, and lead to a place before.
+unfoldable pub declaredAt : List ℕ → ℕ → Bool
+declaredAt cl c = ltb (2 * c + 1) (length cl) && ltb (2 * c + 1) (getD cl (2 * c) 0)
+
 -- The i-th superclass of the class of name c; there is none where a number leads out of the table.
 unfoldable pub superAt : List ℕ → ℕ → ℕ → Found
 superAt cl c i =
-    if (ltb (2 * c + 1) (length cl)) (if (ltb i (getD cl (2 * c + 1) 0)) (
+    if (declaredAt cl c) (if (ltb i (getD cl (2 * c + 1) 0)) (
     if (ltb (getD cl (2 * c) 0 + i) (length cl)) (At (getD cl (getD cl (2 * c) 0 + i) 0)) Nothing) Nothing) Nothing
 
 -- A superclass and those after it, or none.

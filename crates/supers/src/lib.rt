@@ -16,7 +16,7 @@ ghost use Rattle.meaning.specs.Reduce.{find-super-proof};
 ghost use Rattle.names.specs.Names.{nameOf};
 ghost use Rattle.ast.specs.Table.{tree, Node};
 ghost use Rattle.cores.specs.Binders.{bindersOf};
-ghost use Rattle.supers.specs.ClassTable.{superAt};
+ghost use Rattle.supers.specs.ClassTable.{declaredAt, superAt};
 ghost use Rattle.supers.specs.Givens.{givensOf, Few, GivenAt};
 ghost use Rattle.supers.specs.Search.{hits, ReadySearch, GivesFound};
 
@@ -39,14 +39,25 @@ pub enum Searched {
     Refused(Refusal, usize, usize),
 }
 
+// Whether the class of name c is declared: all reading of the place in its row.
+pub fn is_declared(classes: &[u64], c: usize) -> bool
+    ensures { λ r. ⌜ r ≡ declaredAt (now (classes .entry)) c ⌝ }
+{
+    if c >= classes.len() / 2 {
+        return false;
+    }
+    classes[2 * c] as usize > 2 * c + 1
+}
+
 // The i-th superclass of the class of name c.
 pub fn super_at(classes: &[u64], c: usize, i: usize) -> Found
     ensures { λ r. ⌜ r ≡ superAt (now (classes .entry)) c i ⌝ }
 {
-    let n = classes.len();
-    if c >= n / 2 {
+    let known = is_declared(classes, c);
+    if !known {
         return Found::Nothing;
     }
+    let n = classes.len();
     let p = classes[2 * c] as usize;
     let k = classes[2 * c + 1] as usize;
     if i >= k {
