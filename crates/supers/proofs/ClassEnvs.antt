@@ -13,7 +13,7 @@ use Rattle.meaning.specs.Classes.{ClassInfo, ClassEnv, supers-of}
 use Rattle.names.specs.Names.{Names, nameOf}
 use Rattle.names.proofs.Distinct.{nameOf-same}
 use Rattle.supers.specs.ClassTable.{supersOf, Supers}
-use Rattle.supers.proofs.ClassLaws.{none-class, supers-end}
+use Rattle.supers.proofs.ClassLaws.{none-class, row-not, supers-end}
 
 module _ (ns cl : List ℕ) where
   -- The class of name c, with no methods.
@@ -62,4 +62,4 @@ module _ (ns cl : List ℕ) where
       where
         go : (c : ℕ) → Dec (c < length cl) → supers-of (get names (nameOf ns c) (classes (length cl))) ≡ map (nameOf ns) (supersOf cl c)
         go c (yes h) = inside c (length cl) h
-        go c (no h) = outside c (length cl) (omega arith) ∙ ap (map (nameOf ns)) (sym (supers-end cl c 0 (sym (none-class cl c 0 (omega arith)))))
+        go c (no h) = outside c (length cl) (omega arith) ∙ ap (map (nameOf ns)) (sym (supers-end cl c 0 (sym (none-class cl c 0 (sym (row-not cl c (omega arith)))))))
