@@ -1,0 +1,5 @@
+pub mod Followed
+pub mod Choices
+pub mod Dictionaries
+pub mod Goals
+pub mod Steps
