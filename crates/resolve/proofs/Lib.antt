@@ -3,3 +3,4 @@ pub mod Choices
 pub mod Dictionaries
 pub mod Goals
 pub mod Steps
+pub mod Means
