@@ -1,22 +1,22 @@
 -- The ways out of `choose` and `find_way`, from what the calls gave.
-use mathlib.Core.Path.{_≡_, refl, ap, sym, _∙_}
+use mathlib.Core.Path.{_≡_, refl, _∙_}
 use mathlib.Core.List.{List}
-use mathlib.Core.Option.{Option, none, some}
+use mathlib.Core.Option.{none, some}
 use Prim.Native.Nat.{ℕ, _+_, _*_, _-_, _<_, _≤_}
 use native.Mathlib.Omega.{arith}
 use lib.ListN.{length, getD}
 use Rattle.meaning.specs.Ast.{Pred, pred, Core}
-use Rattle.meaning.specs.Budget.{Out, done, refused, after}
+use Rattle.meaning.specs.Budget.{Out, done}
 use Rattle.meaning.specs.Subst.{apply-preds}
 use Rattle.meaning.specs.Classes.{ClassEnv, InstanceInfo, Chosen, resolve-from-givens, by-inst}
 use Rattle.theorems.proofs.Grown.{nth-below}
 use Rattle.names.specs.Names.{nameOf}
-use Rattle.ast.specs.Table.{cellOf, tree, Node, Kept}
-use Rattle.ast.proofs.Laws.{kept-tree, kept-node, kept-table, node-more, cons-tail}
+use Rattle.ast.specs.Table.{tree, Node}
+use Rattle.ast.proofs.Laws.{kept-tree, kept-node, kept-table, cons-tail}
 use Rattle.errors.specs.declared.Refusal.{Refusal}
 use Rattle.errors.specs.declared.Refusal.the-variants.{NoInstance}
 use Rattle.errors.specs.Refusals.{Refuses}
-use Rattle.pairs.specs.Pairs.{subAt, Sub, Stands}
+use Rattle.pairs.specs.Pairs.{subAt, Stands}
 use Rattle.pairs.proofs.Frames.{stands-then, stands-up, sub-stands, sub-later}
 use Rattle.apply.specs.Region.{Ready, Gives}
 use Rattle.apply.specs.declared.Applied.{Applied}
@@ -24,8 +24,8 @@ use Rattle.apply.specs.declared.Applied.the-variants.{Done as A-Done, Refused a
 use Rattle.apply.proofs.Hand.{Then, then-done, refuse-on, refuse-same, refuse-here, gave, failed}
 use Rattle.compose.specs.Answers.{GrownU}
 use Rattle.subst.specs.Preds.{predsOf}
-use Rattle.instances.specs.Accepted.{Instances, Heads, Openable, Opened, Stored}
-use Rattle.instances.specs.Picks.{ReadyPick, PickedAt, PickedAs, GivesPick}
+use Rattle.instances.specs.Accepted.{Instances, Heads, Openable, Opened}
+use Rattle.instances.specs.Picks.{ReadyPick, PickedAt, GivesPick}
 use Rattle.instances.specs.declared.Picked.{Picked}
 use Rattle.instances.specs.declared.Picked.the-variants.{At, Nothing, Refused as P-Refused}
 use Rattle.instances.proofs.Held.{parts, stored-kept, instances-kept, heads-kept, heads-open}
@@ -37,7 +37,7 @@ use Rattle.supers.specs.declared.Root.{Root}
 use Rattle.supers.specs.declared.Searched.{Searched}
 use Rattle.supers.specs.declared.Searched.the-variants.{Found, Nothing as S-Nothing, Refused as S-Refused}
 use Rattle.resolve.specs.Ways.{Way, at-hand, by, way-by, or-way, way-to}
-use Rattle.resolve.specs.Resolves.{Declared, ReadyResolve, Makes, WayIs, Chooses, WayAs, GivesWay}
+use Rattle.resolve.specs.Resolves.{Declared, ReadyResolve, WayAs, GivesWay}
 use Rattle.resolve.specs.declared.Choice.{Choice}
 use Rattle.resolve.specs.declared.Choice.the-variants.{Given, By, Refused}
 

@@ -1,12 +1,12 @@
 -- The ways out of `with_args` and `build`, from what the calls gave.
-use mathlib.Core.Path.{_≡_, refl, ap, sym, _∙_}
+use mathlib.Core.Path.{_≡_, refl, sym, _∙_}
 use mathlib.Core.List.{List}
 use Prim.Native.Nat.{ℕ, _+_, _*_, _-_, _^_, _<_, _≤_}
 use native.Mathlib.Omega.{arith}
 use lib.ListN.{length, getD}
 use Rattle.meaning.specs.Ast.{dict-rec, dict-app, Core, Cores, _◃_}
-use Rattle.meaning.specs.Budget.{Out, done, after}
-use Rattle.meaning.specs.Subst.{Subst, apply-in}
+use Rattle.meaning.specs.Budget.{done}
+use Rattle.meaning.specs.Subst.{apply-in}
 use Rattle.meaning.specs.Classes.{InstanceInfo, Chosen, applied}
 use Rattle.names.specs.Names.{first-node, nameOf}
 use Rattle.ast.specs.Table.{cellOf, tree, Node}
@@ -16,7 +16,7 @@ use Rattle.ast.proofs.Ranges.{cons-node}
 use Rattle.ast.proofs.Laws.{node-more, cons-head}
 use Rattle.ast.proofs.NewNode.{Pushed}
 use Rattle.errors.specs.declared.Refusal.{Refusal}
-use Rattle.pairs.specs.Pairs.{subAt, Stands}
+use Rattle.pairs.specs.Pairs.{subAt}
 use Rattle.pairs.proofs.Frames.{stands-refl, stands-then, stands-up}
 use Rattle.apply.specs.Region.{Ready, Gives}
 use Rattle.apply.specs.declared.Applied.{Applied}
@@ -40,20 +40,20 @@ with-some : (f a : Core) (es : Cores) → applied f (a ◃ es) ≡ dict-app f (a
 unfolding applied
 with-some f a es = refl
 
+-- The number of a node that there is room for.
+pub small-room : (w : List ℕ) (top : ℕ) → 4 * top + 4 ≤ length w → length w < 2 ^ 65 → top < first-node
+small-room w top room big = omega arith
+
 module _ {w : List ℕ} {top f es : ℕ} (F : Node w top f) (A : Node w top es) {c : Cell} (e : c ≡ cellOf w es) where
   -- There are no arguments.
   pub wraps-none : c ≡ Nil → Wraps w w top f es f top
   unfolding applied
   wraps-none h = record { stands = stands-refl _ _ _; node = F; more = omega arith; most = omega arith; is = λ ns. rw (cores-nil ns A e h) }
 
-  -- A list with a first element is a node, so that the table is no larger than there are words.
-  pub wraps-small : {a b : ℕ} → c ≡ Cons a b → 4 * top + 4 ≤ length w → length w < 2 ^ 65 → top < first-node
-  wraps-small h room big = omega arith
-
   -- There are some.
   pub wraps-some : {w′ : List ℕ} {a b : ℕ} → c ≡ Cons a b → 4 * top + 4 ≤ length w → length w < 2 ^ 65 → w′ ≡ pushedFour w top 8 f es 0 → Wraps w w′ top f es (first-node + top) (top + 1)
   wraps-some {w′} {a} {b} h room big p =
-      let small : top < first-node = omega arith in
+      let small = small-room w top room big in
       record {
         stands = four-stands w top 8 f es 0 p (4 * top + 4) (omega arith);
         node = push-applied w room small F A p .node;

@@ -1,17 +1,17 @@
 -- `resolve` by its parts: the way to a dictionary, and then its end.
-use mathlib.Core.Path.{_≡_, refl, _∙_}
-use mathlib.Core.List.{List, [], _∷_}
+use mathlib.Core.Path.{_≡_, refl}
+use mathlib.Core.List.{List, _∷_}
 use mathlib.Core.Option.{Option, none, some}
 use Prim.Native.Nat.{ℕ, zero, suc, _-_}
 use native.Mathlib.Numerals.{sub-one}
 use native.Mathlib.Omega.{arith}
-use Rattle.meaning.specs.Ast.{Pred, Core, Cores, _◃_}
+use Rattle.meaning.specs.Ast.{Pred, Core, _◃_}
 use Rattle.meaning.specs.Errors as E
 use Rattle.meaning.specs.Budget.{Out, done, refused, Steps, after, step}
 use Rattle.meaning.specs.Subst.{apply-preds}
 use Rattle.meaning.specs.Classes.{ClassEnv, Given, Chosen, resolve-from-givens, by-inst, all-resolved, from-instance, or-instance, resolve-node, resolve-in}
 use Rattle.apply.proofs.Hand.{Then}
-use Rattle.resolve.specs.Ways.{Way, by, way-by, or-way, way-to, dictionary, follow}
+use Rattle.resolve.specs.Ways.{by, way-by, or-way, way-to, dictionary, follow}
 
 module _ (r : Pred → Steps Core) where
   -- An instance's dictionary, after its contexts.

@@ -1,12 +1,12 @@
 -- Handing dictionaries on to a caller, and the ways out of `all_resolved`, from what the calls gave.
-use mathlib.Core.Path.{_≡_, refl, ap, sym, _∙_}
-use mathlib.Core.List.{List, [], _∷_}
+use mathlib.Core.Path.{_≡_, ap, sym, _∙_}
+use mathlib.Core.List.{List}
 use Prim.Native.Nat.{ℕ, _+_, _*_, _-_, _^_, _<_, _≤_}
 use native.Mathlib.Omega.{arith}
 use lib.ListN.{length}
-use Rattle.meaning.specs.Ast.{Pred, pred, Core, Cores, _◃_}
+use Rattle.meaning.specs.Ast.{pred, _◃_}
 use Rattle.meaning.specs.Budget.{Out, done, after}
-use Rattle.meaning.specs.Classes.{ClassEnv, Given, all-resolved, resolve-in}
+use Rattle.meaning.specs.Classes.{ClassEnv, all-resolved, resolve-in}
 use Rattle.names.specs.Names.{first-node, nameOf}
 use Rattle.ast.specs.Table.{cellOf, tree, Table, Node, Kept, pushed}
 use Rattle.ast.specs.declared.Cell.{Cell}
@@ -15,9 +15,8 @@ use Rattle.ast.proofs.Ranges.{cons-node}
 use Rattle.ast.proofs.Laws.{node-more, cons-head, cons-tail}
 use Rattle.errors.specs.declared.Refusal.{Refusal}
 use Rattle.errors.specs.Refusals.{Refuses}
-use Rattle.pairs.specs.Pairs.{Stands}
 use Rattle.pairs.proofs.Frames.{stands-refl, stands-then, pushed-stands}
-use Rattle.apply.proofs.Hand.{Then, then-done, is-then, refuse-on, refuse-same}
+use Rattle.apply.proofs.Hand.{Then, then-done, is-then, refuse-on}
 use Rattle.apply.proofs.Ways.{Room}
 use Rattle.subst.specs.Preds.{classAt, predsOf}
 use Rattle.subst.proofs.PredLaws.{kept-preds, preds-nil, preds-cons}
@@ -28,7 +27,7 @@ use Rattle.cores.proofs.NewTerm.{push-cores}
 use Rattle.supers.specs.Givens.{givensOf}
 use Rattle.supers.specs.declared.Root.{Root}
 use Rattle.supers.proofs.GivenLaws.{kept-givens, kept-few}
-use Rattle.resolve.specs.Resolves.{Declared, ReadyResolve, Makes, CoreAs, GivesCore}
+use Rattle.resolve.specs.Resolves.{Declared, ReadyResolve, Makes, GivesCore}
 use Rattle.resolve.specs.declared.Resolved.{Resolved}
 use Rattle.resolve.specs.declared.Resolved.the-variants.{Done, Refused}
 use Rattle.resolve.proofs.Followed.{first-goal}

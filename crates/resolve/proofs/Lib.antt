@@ -3,4 +3,5 @@ pub mod Choices
 pub mod Dictionaries
 pub mod Goals
 pub mod Steps
+pub mod Environments
 pub mod Means

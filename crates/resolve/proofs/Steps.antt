@@ -1,19 +1,17 @@
 -- The ways out of `resolve`, from what the calls gave.
 use mathlib.Core.Path.{_≡_, refl, ap, sym, _∙_}
 use mathlib.Core.List.{List}
-use mathlib.Core.Option.{some}
 use Prim.Native.Nat.{ℕ, _+_, _*_, _-_, _<_, _≤_}
 use native.Mathlib.Omega.{arith}
 use lib.ListN.{length, getD}
-use Rattle.meaning.specs.Base.{nth}
-use Rattle.meaning.specs.Ast.{Pred, pred, Core, Cores}
+use Rattle.meaning.specs.Ast.{Pred, pred, Core}
 use Rattle.meaning.specs.Budget.{Out, done, Steps, after}
 use Rattle.meaning.specs.Classes.{ClassEnv, InstanceInfo, Chosen, all-resolved, resolve-in}
 use Rattle.names.specs.Names.{nameOf}
-use Rattle.ast.specs.Table.{tree, Node}
+use Rattle.ast.specs.Table.{tree}
 use Rattle.errors.specs.declared.Refusal.{Refusal}
 use Rattle.errors.specs.declared.Refusal.the-variants.{Depth, Steps as No-steps}
-use Rattle.pairs.specs.Pairs.{subAt, Sub, Stands}
+use Rattle.pairs.specs.Pairs.{subAt, Stands}
 use Rattle.pairs.proofs.Frames.{stands-refl, stands-then, stands-up, sub-stands, sub-later}
 use Rattle.apply.proofs.Hand.{Then, then-done, refuse-on, refuse-same, refuse-here}
 use Rattle.subst.specs.Preds.{predsOf}
@@ -23,8 +21,8 @@ use Rattle.cores.specs.Terms.{core, cores}
 use Rattle.supers.specs.Givens.{givensOf}
 use Rattle.supers.specs.declared.Root.{Root}
 use Rattle.supers.proofs.GivenLaws.{kept-givens}
-use Rattle.resolve.specs.Ways.{Way, at-hand, by, way-to, dictionary, follow}
-use Rattle.resolve.specs.Resolves.{Declared, ReadyResolve, ReadyBuild, Makes, CoreAs, GivesCore, WayIs, Chooses, WayAs, GivesWay}
+use Rattle.resolve.specs.Ways.{at-hand, by, way-to, dictionary, follow}
+use Rattle.resolve.specs.Resolves.{Declared, ReadyResolve, ReadyBuild, CoreAs, GivesCore, Chooses, WayAs, GivesWay}
 use Rattle.resolve.specs.declared.Resolved.{Resolved}
 use Rattle.resolve.specs.declared.Resolved.the-variants.{Done, Refused}
 use Rattle.resolve.specs.declared.Choice.{Choice}

@@ -1,7 +1,8 @@
 -- A term alone, or a node that applies it.
+use mathlib.Core.List.{_++_}
 use native.Mathlib.Omega.{arith}
 use Rattle.ast.proofs.Join.{both-fit}
-use Rattle.resolve.proofs.Dictionaries.{wraps-none, wraps-small, wraps-some}
+use Rattle.resolve.proofs.Dictionaries.{small-room, wraps-none, wraps-some}
 use borrow.Author.Needs.{needs}
 use Rattle.resolve.proofs.with_args.Statement.{statement}
 use Rattle.resolve.proofs.with_args.Tie as tie
@@ -28,7 +29,7 @@ push-app-requires c κs = search needs
 
 -- src/lib.rt:124:23
 add-t13 : tie.Need-add-t13
-add-t13 c = let s = wraps-small (c .before .before .before .before .before .before .before .before .before .before .pre .1 .1 .0) (c .before .before .before .before .before .before .before .before .before .before .pre .1 .1 .1) (c .before .before .before .before .before .before .cell-at .ensures) (c .before .before .before .before .enum-told2 .given .1) (c .before .before .before .before .before .before .before .before .before .before .pre .1 .0) (both-fit (c .before .before .before .before .before .before .before .before .before .before .args .base .now) (c .before .before .before .before .before .before .before .before .before .before .args .work .now) (c .before .before .before .before .before .before .before .before .before .before .good .0 .0) (c .before .before .before .before .before .before .before .before .before .before .good .1 .0 .0)) in omega arith
+add-t13 c = let s = small-room (c .before .before .before .before .before .before .before .before .before .before .args .base .now ++ c .before .before .before .before .before .before .before .before .before .before .args .work .now) _ (c .before .before .before .before .before .before .before .before .before .before .pre .1 .0) (both-fit (c .before .before .before .before .before .before .before .before .before .before .args .base .now) (c .before .before .before .before .before .before .before .before .before .before .args .work .now) (c .before .before .before .before .before .before .before .before .before .before .good .0 .0) (c .before .before .before .before .before .before .before .before .before .before .good .1 .0 .0)) in omega arith
 
 -- src/lib.rt:125:22
 add-t14 : tie.Need-add-t14
