@@ -1,5 +1,6 @@
 pub mod ClassLaws
 pub mod ClassEnvs
+pub mod RowLaws
 pub mod GivenLaws
 pub mod FrameLaws
 pub mod Building

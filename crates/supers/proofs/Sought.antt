@@ -19,57 +19,57 @@ use Rattle.pairs.specs.Pairs.{Stands}
 use Rattle.pairs.proofs.Frames.{stands-refl, stands-then, stands-up}
 use Rattle.cores.specs.Terms.{core}
 use Rattle.cores.proofs.TermLaws.{kept-core}
-use Rattle.supers.specs.declared.Root.{Root}
+use Rattle.supers.specs.declared.Source.{Source}
 use Rattle.supers.specs.declared.Given.{Given}
 use Rattle.supers.specs.declared.Given.the-variants.{One, Nothing}
 use Rattle.supers.specs.declared.path.Entered.{Entered}
 use Rattle.supers.specs.declared.path.Entered.the-variants.{Deep, Spent, Hit}
 use Rattle.supers.specs.declared.Searched.the-variants.{Found, Nothing as Found-Nothing, Refused}
 use Rattle.supers.specs.ClassTable.{Supers}
-use Rattle.supers.specs.Givens.{givensOf, First, GivenAt}
+use Rattle.supers.specs.Givens.{givensIn, ahead, First, GivenAt}
 use Rattle.supers.specs.Frames.{Enters, Built}
-use Rattle.supers.specs.Search.{hits, ReadySearch, GivesFound}
-use Rattle.supers.proofs.GivenLaws.{kept-givens, kept-few}
+use Rattle.supers.specs.Search.{hits, ReadyIn, GivesFound}
+use Rattle.supers.proofs.GivenLaws.{kept-givens, kept-ready}
 use Rattle.supers.proofs.Goals.{proj-hit, proj-miss, root-hit, root-miss}
 use Rattle.supers.proofs.Rest.{Way, or-then, todo, next, pending, enters}
 use Rattle.supers.proofs.Walk.{Fine, Walking, Going, holds-at, enter-stands}
 
--- What the givens of the list l give, the first of them being the i-th.
-abbrev pub sought : List ℕ → List ℕ → Root → ℕ → ℕ → Bool → ℕ → ℕ → ClassEnv → Steps (Option Core)
-sought ns w root i l proper goal t ce = from-givens ce (givensOf ns w root i l) (hits proper (pred (nameOf ns goal) (tree ns w t)))
+-- What the givens from l on give, the first of them being the i-th.
+abbrev pub sought : List ℕ → List ℕ → List ℕ → Source → ℕ → ℕ → Bool → ℕ → ℕ → ClassEnv → Steps (Option Core)
+sought ns w bs src i l proper goal t ce = from-givens ce (givensIn ns w bs src i l) (hits proper (pred (nameOf ns goal) (tree ns w t)))
 
--- The loop has come to the list g of givens, with n steps left.
-pub record Asking (ns cl w₀ : List ℕ) (top left sp : ℕ) (root : Root) (l : ℕ) (proper : Bool) (goal t : ℕ) (w : List ℕ) (g i n : ℕ) : Type 0 where
-  pub ready : ReadySearch ns w top n sp root i g t
+-- The loop has come to the givens from g on, with n steps left.
+pub record Asking (ns cl bs w₀ : List ℕ) (top left sp : ℕ) (src : Source) (l : ℕ) (proper : Bool) (goal t : ℕ) (w : List ℕ) (g i n : ℕ) : Type 0 where
+  pub ready : ReadyIn ns w bs top n sp src i g t
   pub stands : Stands w₀ w top sp
   pub long : length w ≡ length w₀
   pub down : n ≤ left
-  pub past : i + g ≤ l
-  pub is : (ce : ClassEnv) → Supers ns cl ce → sought ns w₀ root 0 l proper goal t ce left ≡ sought ns w root i g proper goal t ce n
+  pub past : i + ahead src g ≤ ahead src l
+  pub is : (ce : ClassEnv) → Supers ns cl ce → sought ns w₀ bs src 0 l proper goal t ce left ≡ sought ns w bs src i g proper goal t ce n
 
 -- At first to all of them.
-pub asking : {ns w : List ℕ} {top left sp l t : ℕ} {root : Root} (cl : List ℕ) (proper : Bool) (goal : ℕ) → ReadySearch ns w top left sp root 0 l t → Asking ns cl w top left sp root l proper goal t w l 0 left
+pub asking : {ns w bs : List ℕ} {top left sp l t : ℕ} {src : Source} (cl : List ℕ) (proper : Bool) (goal : ℕ) → ReadyIn ns w bs top left sp src 0 l t → Asking ns cl bs w top left sp src l proper goal t w l 0 left
 asking cl proper goal R = record { ready = R; stands = stands-refl _ _ _; long = refl; down = omega arith; past = omega arith; is = λ ce S. refl }
 
-module _ {ns cl w₀ w : List ℕ} {top left sp l goal t g i n : ℕ} {root : Root} {proper : Bool} (A : Asking ns cl w₀ top left sp root l proper goal t w g i n) where
+module _ {ns cl bs w₀ w : List ℕ} {top left sp l goal t g i n : ℕ} {src : Source} {proper : Bool} (A : Asking ns cl bs w₀ top left sp src l proper goal t w g i n) where
   -- No givens are left.
-  pub none-left : {q : Given} → GivenAt ns w top root i g q → q ≡ Nothing → GivesFound ns cl w₀ w top left sp (λ ce. sought ns w₀ root 0 l proper goal t ce left) (Found-Nothing n)
+  pub none-left : {q : Given} → GivenAt ns w bs top src i g q → q ≡ Nothing → GivesFound ns cl w₀ w top left sp (λ ce. sought ns w₀ bs src 0 l proper goal t ce left) (Found-Nothing n)
   unfolding from-givens
   none-left G k = record { stands = A .stands; answer = record { down = A .down; is = λ ce S. A .is ce S ∙ rw (rw k at (G .says)) } }
 
-  module _ {q : Given} {e c u rest : ℕ} {w₁ : List ℕ} {same : Bool} {r₁ : Entered} (G : GivenAt ns w top root i g q) (k : q ≡ One e c u rest)
+  module _ {q : Given} {e c u rest : ℕ} {w₁ : List ℕ} {same : Bool} {r₁ : Entered} (G : GivenAt ns w bs top src i g q) (k : q ≡ One e c u rest)
       (S : same ≡ yes? (same-ty (tree ns w u) (tree ns w t))) (E : Enters w w₁ sp 0 n c goal same proper r₁) where
     -- The first of them.
-    first : First ns w top root i g e c u rest
+    first : First ns w bs top src i g e c u rest
     first = rw k at (G .says)
 
     -- The rest is shorter.
-    pub rest-less : rest < g
+    pub rest-less : ahead src rest < ahead src g
     rest-less = first .less
 
     -- Its walk.
     way : ClassEnv → Way
-    way ce = record { env = ce; hit = hits proper (pred (nameOf ns goal) (tree ns w t)); root = core ns w e; ty = tree ns w u; rest = sought ns w root (suc i) rest proper goal t ce }
+    way ce = record { env = ce; hit = hits proper (pred (nameOf ns goal) (tree ns w t)); root = core ns w e; ty = tree ns w u; rest = sought ns w bs src (suc i) rest proper goal t ce }
 
     -- It goes by the class table.
     fine : (ce : ClassEnv) → Supers ns cl ce → Fine ns cl goal same (way ce)
@@ -89,7 +89,7 @@ module _ {ns cl w₀ w : List ℕ} {top left sp l goal t g i n : ℕ} {root : Ro
     entered = enter-stands w w₁ top sp 0 n c goal same proper r₁ enter-room (E .says)
 
     -- What is sought is what is left after the given's entry.
-    begins : (ce : ClassEnv) → Supers ns cl ce → sought ns w₀ root 0 l proper goal t ce left ≡ pending ns cl (way ce) w₁ sp r₁ 0 n
+    begins : (ce : ClassEnv) → Supers ns cl ce → sought ns w₀ bs src 0 l proper goal t ce left ≡ pending ns cl (way ce) w₁ sp r₁ 0 n
     unfolding way from-givens next or-then todo
     begins ce C =
         let x = A .ready .room in
@@ -107,13 +107,13 @@ module _ {ns cl w₀ w : List ℕ} {top left sp l goal t g i n : ℕ} {root : Ro
     turn-room K = let x = walk-room .0 in let f = walk-room .1 in let p = K .paid in let l₂ = K .long in (omega arith, omega arith)
 
     -- The number of the next given.
-    pub next-number : i + 1 ≤ l
+    pub next-number : i + 1 ≤ ahead src l
     next-number = let a = A .past in let b = rest-less in omega arith
 
     -- Inside the walk, at the words w₂.
     module _ {w₂ : List ℕ} {n₂ d : ℕ} {r : Entered} (K : Walking ns cl w₁ top sp n goal same r₁ w₂ n₂ r d) where
       -- What was sought is what is left.
-      so-far : (ce : ClassEnv) → Supers ns cl ce → sought ns w₀ root 0 l proper goal t ce left ≡ pending ns cl (way ce) w₂ sp r d n₂
+      so-far : (ce : ClassEnv) → Supers ns cl ce → sought ns w₀ bs src 0 l proper goal t ce left ≡ pending ns cl (way ce) w₂ sp r d n₂
       so-far ce C = begins ce C ∙ K .is (way ce) (fine ce C)
 
       -- What stands over it.
@@ -125,7 +125,7 @@ module _ {ns cl w₀ w : List ℕ} {top left sp l goal t g i n : ℕ} {root : Ro
       as-long = K .long ∙ entered .1 ∙ A .long
 
       -- The entry lies too deep.
-      pub too-far : r ≡ Deep → GivesFound ns cl w₀ w₂ top left sp (λ ce. sought ns w₀ root 0 l proper goal t ce left) (Refused Depth top n₂)
+      pub too-far : r ≡ Deep → GivesFound ns cl w₀ w₂ top left sp (λ ce. sought ns w₀ bs src 0 l proper goal t ce left) (Refused Depth top n₂)
       unfolding pending
       too-far h =
           let p = K .paid in
@@ -136,7 +136,7 @@ module _ {ns cl w₀ w : List ℕ} {top left sp l goal t g i n : ℕ} {root : Ro
           }
 
       -- No step is left for it.
-      pub no-step : r ≡ Spent → GivesFound ns cl w₀ w₂ top left sp (λ ce. sought ns w₀ root 0 l proper goal t ce left) (Refused No-Steps top 0)
+      pub no-step : r ≡ Spent → GivesFound ns cl w₀ w₂ top left sp (λ ce. sought ns w₀ bs src 0 l proper goal t ce left) (Refused No-Steps top 0)
       unfolding pending
       no-step h = record {
         stands = stands-then (A .stands) since (omega arith);
@@ -144,7 +144,7 @@ module _ {ns cl w₀ w : List ℕ} {top left sp l goal t g i n : ℕ} {root : Ro
       }
 
       -- It is the goal, and its projections were made.
-      pub is-goal : {w₃ : List ℕ} {p : ℕ} → r ≡ Hit → Built w₂ w₃ top sp d e p → GivesFound ns cl w₀ w₃ top left sp (λ ce. sought ns w₀ root 0 l proper goal t ce left) (Found p (top + d) (n₂ - 1))
+      pub is-goal : {w₃ : List ℕ} {p : ℕ} → r ≡ Hit → Built w₂ w₃ top sp d e p → GivesFound ns cl w₀ w₃ top left sp (λ ce. sought ns w₀ bs src 0 l proper goal t ce left) (Found p (top + d) (n₂ - 1))
       unfolding pending way
       is-goal {w₃} {p} h B =
           let x = K .paid in
@@ -174,7 +174,7 @@ module _ {ns cl w₀ w : List ℕ} {top left sp l goal t g i n : ℕ} {root : Ro
           (omega arith, (omega arith, kept-node (since .low) (omega arith) (low-node (A .ready .ty .table) (first .low))))
 
     -- The walk is over: the loop comes to the rest.
-    pub asks-on : {w₂ : List ℕ} {n₂ d : ℕ} → Going ns cl w₁ top sp n goal same r₁ w₂ n₂ d → d ≡ 0 → Asking ns cl w₀ top left sp root l proper goal t w₂ rest (i + 1) n₂
+    pub asks-on : {w₂ : List ℕ} {n₂ d : ℕ} → Going ns cl w₁ top sp n goal same r₁ w₂ n₂ d → d ≡ 0 → Asking ns cl bs w₀ top left sp src l proper goal t w₂ rest (i + 1) n₂
     unfolding way todo
     asks-on {w₂} {n₂} {d} K h =
         let F = first in
@@ -189,8 +189,7 @@ module _ {ns cl w₀ w : List ℕ} {top left sp l goal t g i n : ℕ} {root : Ro
         record {
           ready = record {
             names = A .ready .names;
-            givens = kept-node (since .low) (omega arith) (F .others);
-            few = rw (add-one i) (kept-few ns root (suc i) (since .low) (F .others) (F .few));
+            givens = rw (add-one i) (kept-ready ns bs src (suc i) rest (since .low) (omega arith) (F .others));
             ty = kept-node (since .low) (omega arith) (A .ready .ty);
             room = omega arith;
             fits = omega arith;
@@ -199,5 +198,5 @@ module _ {ns cl w₀ w : List ℕ} {top left sp l goal t g i n : ℕ} {root : Ro
           long = l₂ ∙ l₁ ∙ A .long;
           down = omega arith;
           past = (let a = A .past in let b = F .less in omega arith);
-          is = λ ce C. begins ce C ∙ K .is (way ce) (fine ce C) ∙ rw (h, add-one i, kept-givens ns root (suc i) (since .low) (F .others), kept-tree ns (since .low) (A .ready .ty));
+          is = λ ce C. begins ce C ∙ K .is (way ce) (fine ce C) ∙ rw (h, add-one i, kept-givens ns bs src (suc i) rest (since .low) (F .others), kept-tree ns (since .low) (A .ready .ty));
         }

@@ -16,8 +16,9 @@ use Rattle.errors.specs.Refusals.{Refuses}
 use Rattle.pairs.specs.Pairs.{Stands}
 use Rattle.cores.specs.Terms.{core}
 use Rattle.supers.specs.ClassTable.{Supers}
-use Rattle.supers.specs.Givens.{Few}
+use Rattle.supers.specs.Givens.{Few, GivensReady}
 use Rattle.supers.specs.declared.Root.{Root}
+use Rattle.supers.specs.declared.Source.{Source}
 use Rattle.supers.specs.declared.Searched.{Searched}
 use Rattle.supers.specs.declared.Searched.the-variants.{Found, Nothing, Refused}
 
@@ -31,6 +32,14 @@ pub record ReadySearch (ns w : List ℕ) (top left sp : ℕ) (root : Root) (i l 
   pub names : Names ns
   pub givens : Node w top l
   pub few : Few ns w root i l
+  pub ty : Node w top t
+  pub room : 4 * top + 8 * left ≤ sp
+  pub fits : sp ≤ length w
+
+-- The same of a source's givens from l on.
+pub record ReadyIn (ns w bs : List ℕ) (top left sp : ℕ) (src : Source) (i l t : ℕ) : Type 0 where
+  pub names : Names ns
+  pub givens : GivensReady ns w bs top src i l
   pub ty : Node w top t
   pub room : 4 * top + 8 * left ≤ sp
   pub fits : sp ≤ length w

@@ -1,5 +1,6 @@
 // The search of 001 over givens and their superclass entries: `by_super` as a walk, up to the first entry that is the goal.
 mod path;
+pub mod rows;
 
 use ast::Cell;
 use errors::Refusal;
@@ -17,8 +18,8 @@ ghost use Rattle.names.specs.Names.{nameOf};
 ghost use Rattle.ast.specs.Table.{tree, Node};
 ghost use Rattle.cores.specs.Binders.{bindersOf};
 ghost use Rattle.supers.specs.ClassTable.{declaredAt, superAt};
-ghost use Rattle.supers.specs.Givens.{givensOf, Few, GivenAt};
-ghost use Rattle.supers.specs.Search.{hits, ReadySearch, GivesFound};
+ghost use Rattle.supers.specs.Givens.{givensOf, givensIn, Few, ListedAt};
+ghost use Rattle.supers.specs.Search.{hits, ReadyIn, ReadySearch, GivesFound};
 
 // Whose dictionaries a list of givens names: the context of an instance of a class, or binders.
 pub enum Root {
@@ -26,7 +27,13 @@ pub enum Root {
     Binder,
 }
 
-// The first of a list of givens: its dictionary, its class, its type, and the rest of the list.
+// Where givens stand: in a list of the table, or in the rows of a lent slice up to a number.
+pub enum Source {
+    Listed(Root),
+    Rows(usize),
+}
+
+// The first of some givens: its dictionary, its class, its type, and where the rest begins.
 pub enum Given {
     One(usize, usize, usize, usize),
     Nothing,
@@ -73,7 +80,7 @@ pub fn super_at(classes: &[u64], c: usize, i: usize) -> Found
 }
 
 // The first given of the list l, which is the i-th of its context.
-pub fn given_at(
+pub fn listed_at(
     base: &[u64],
     work: &[u64],
     names: &[u64],
@@ -84,7 +91,7 @@ pub fn given_at(
 ) -> Given
     requires { ⌜ Node (now base ++ now work) top l ⌝ }
     requires { ⌜ Few (now names) (now base ++ now work) root i l ⌝ }
-    ensures { λ r. ⌜ GivenAt (now (names .entry)) (now (base .entry) ++ now (work .entry)) top root i l r ⌝ }
+    ensures { λ r. ⌜ ListedAt (now (names .entry)) (now (base .entry) ++ now (work .entry)) top root i l r ⌝ }
 {
     let c = ast::cell_at(base, work, l);
     match c {
@@ -100,32 +107,33 @@ pub fn given_at(
 }
 
 // The first entry of the givens' lists that is the goal, the class goal at the type t; where it must be proper, no given
-// itself. The frames of the walk lie below sp.
-pub fn search(
+// itself. The givens begin at l. The frames of the walk lie below sp.
+pub fn search_in(
     base: &[u64],
     work: &mut [u64],
     names: &[u64],
     classes: &[u64],
+    binders: &[u64],
     top: usize,
     left: usize,
     sp: usize,
-    root: Root,
+    source: Source,
     l: usize,
     proper: bool,
     goal: usize,
     t: usize,
 ) -> Searched
     requires { ⌜ length (now base) ≤ 4 * top ⌝ }
-    requires { ⌜ ReadySearch (now names) (now base ++ now work) top left sp root 0 l t ⌝ }
+    requires { ⌜ ReadyIn (now names) (now base ++ now work) (now binders) top left sp source 0 l t ⌝ }
     ensures { λ r. ⌜ GivesFound (now (names .entry)) (now (classes .entry)) (now (base .entry) ++ now (work .entry)) (now (base .entry) ++ now (work .exit)) top left sp
-        (λ ce. from-givens ce (givensOf (now (names .entry)) (now (base .entry) ++ now (work .entry)) root 0 l)
+        (λ ce. from-givens ce (givensIn (now (names .entry)) (now (base .entry) ++ now (work .entry)) (now (binders .entry)) source 0 l)
         (hits proper (pred (nameOf (now (names .entry)) goal) (tree (now (names .entry)) (now (base .entry) ++ now (work .entry)) t))) left) r ⌝ }
 {
     let mut g = l;
     let mut i: usize = 0;
     let mut n = left;
     let found = 'givens: loop {
-        let q = given_at(base, work, names, top, root, g, i);
+        let q = rows::given_in(base, work, names, binders, top, source, g, i);
         let Given::One(e, c, u, rest) = q else {
             break 'givens Searched::Nothing(n);
         };
@@ -157,6 +165,45 @@ pub fn search(
         i += 1;
     };
     found
+}
+
+// The same over a list of the table.
+pub fn search(
+    base: &[u64],
+    work: &mut [u64],
+    names: &[u64],
+    classes: &[u64],
+    top: usize,
+    left: usize,
+    sp: usize,
+    root: Root,
+    l: usize,
+    proper: bool,
+    goal: usize,
+    t: usize,
+) -> Searched
+    requires { ⌜ length (now base) ≤ 4 * top ⌝ }
+    requires { ⌜ ReadySearch (now names) (now base ++ now work) top left sp root 0 l t ⌝ }
+    ensures { λ r. ⌜ GivesFound (now (names .entry)) (now (classes .entry)) (now (base .entry) ++ now (work .entry)) (now (base .entry) ++ now (work .exit)) top left sp
+        (λ ce. from-givens ce (givensOf (now (names .entry)) (now (base .entry) ++ now (work .entry)) root 0 l)
+        (hits proper (pred (nameOf (now (names .entry)) goal) (tree (now (names .entry)) (now (base .entry) ++ now (work .entry)) t))) left) r ⌝ }
+{
+    let none = [0u64; 0];
+    search_in(
+        base,
+        work,
+        names,
+        classes,
+        &none,
+        top,
+        left,
+        sp,
+        Source::Listed(root),
+        l,
+        proper,
+        goal,
+        t,
+    )
 }
 
 // `resolve_from_givens`: the first entry equal to the goal.

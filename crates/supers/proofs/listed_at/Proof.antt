@@ -5,8 +5,8 @@ use Rattle.ast.proofs.Ranges.{cons-node}
 use Rattle.ast.proofs.Laws.{node-room}
 use Rattle.supers.proofs.GivenLaws.{no-givens, context-room, first-context, first-binder}
 use borrow.Author.Needs.{needs}
-use Rattle.supers.proofs.given_at.Statement.{statement}
-use Rattle.supers.proofs.given_at.Tie as tie
+use Rattle.supers.proofs.listed_at.Statement.{statement}
+use Rattle.supers.proofs.listed_at.Tie as tie
 
 cell-at-requires : tie.Need-cell-at-requires
 cell-at-requires c κs = search needs
@@ -42,16 +42,16 @@ add-t20 : tie.Need-add-t20
 add-t20 c = search needs
 
 returns : tie.Need-returns
-returns c = record { says = no-givens (c .before .before .before .before .before .before .args .names .now) (c .before .before .before .before .before .before .args .i) (c .before .before .before .before .before .before .pre .0) (c .before .before .cell-at .ensures) (c .before .before .before .before .before .before .args .root) (c .enum-told .given .1) }
+returns c = record { says = λ bs. no-givens (c .before .before .before .before .before .before .args .names .now) (c .before .before .before .before .before .before .args .i) (c .before .before .before .before .before .before .pre .0) (c .before .before .cell-at .ensures) (c .before .before .before .before .before .before .args .root) (c .enum-told .given .1) }
 
 returns-2 : tie.Need-returns-2
-returns-2 c = rw (c .before .root .given .1) (record { says = first-context (c .before .before .before .before .before .before .before .before .before .before .before .args .names .now) (c .before .before .before .before .before .before .before .before .before .before .before .args .i) (c .before .before .before .before .before .before .before .before .before .before .before .pre .0) (c .before .before .before .before .before .before .before .cell-at .ensures) (c .before .before .before .before .before .c .given .1) (c .before .before .before .class-at .ensures) (rw (c .before .root .given .1) at (c .before .before .before .before .before .before .before .before .before .before .before .pre .1)) })
+returns-2 c = rw (c .before .root .given .1) (record { says = λ bs. first-context (c .before .before .before .before .before .before .before .before .before .before .before .args .names .now) (c .before .before .before .before .before .before .before .before .before .before .before .args .i) (c .before .before .before .before .before .before .before .before .before .before .before .pre .0) (c .before .before .before .before .before .before .before .cell-at .ensures) (c .before .before .before .before .before .c .given .1) (c .before .before .before .class-at .ensures) (rw (c .before .root .given .1) at (c .before .before .before .before .before .before .before .before .before .before .before .pre .1)) bs })
 
 returns-3 : tie.Need-returns-3
-returns-3 c = rw (c .enum-told2 .given .1) (record { says = first-binder (c .before .before .before .before .before .before .before .before .before .before .args .names .now) (c .before .before .before .before .before .before .before .before .before .before .args .i) (c .before .before .before .before .before .before .before .before .before .before .pre .0) (c .before .before .before .before .before .before .cell-at .ensures) (c .before .before .before .before .c .given .1) (c .before .before .class-at .ensures) (omega arith) })
+returns-3 c = rw (c .enum-told2 .given .1) (record { says = λ bs. first-binder (c .before .before .before .before .before .before .before .before .before .before .args .names .now) (c .before .before .before .before .before .before .before .before .before .before .args .i) (c .before .before .before .before .before .before .before .before .before .before .pre .0) (c .before .before .before .before .before .before .cell-at .ensures) (c .before .before .before .before .c .given .1) (c .before .before .class-at .ensures) (omega arith) bs })
 
-pub given-at-spec : {M : Type 1} → statement M
-given-at-spec =
+pub listed-at-spec : {M : Type 1} → statement M
+listed-at-spec =
     tie.close
     (tie.spec
     cell-at-requires
