@@ -26,7 +26,7 @@ use Rattle.cores.proofs.TermLaws.{kept-core, cores-nil}
 use Rattle.cores.proofs.NewTerm.{push-cores}
 use Rattle.supers.specs.Givens.{givensOf}
 use Rattle.supers.specs.declared.Root.{Root}
-use Rattle.supers.proofs.GivenLaws.{kept-givens, kept-few}
+use Rattle.supers.proofs.GivenLaws.{kept-list, kept-few}
 use Rattle.resolve.specs.Resolves.{Declared, ReadyResolve, Makes, GivesCore}
 use Rattle.resolve.specs.declared.Resolved.{Resolved}
 use Rattle.resolve.specs.declared.Resolved.the-variants.{Done, Refused}
@@ -70,7 +70,7 @@ ready-on {ns} {root = root} R K m N room low len =
 goals-same : {w w₁ : List ℕ} {top g l : ℕ} (ns : List ℕ) (root : Root) (d n : ℕ) (ce : ClassEnv) → Kept w w₁ top → Node w top l → Node w top g
     → all-resolved (λ q. resolve-in d ce (givensOf ns w root 0 l) q) (predsOf ns w g) n ≡ all-resolved (λ q. resolve-in d ce (givensOf ns w₁ root 0 l) q) (predsOf ns w₁ g) n
 goals-same {w} {w₁} {g = g} {l = l} ns root d n ce K L N =
-    ap (λ gs. all-resolved (λ q. resolve-in d ce gs q) (predsOf ns w g) n) (sym (kept-givens ns root 0 K L)) ∙ ap (λ ps. all-resolved (λ q. resolve-in d ce (givensOf ns w₁ root 0 l) q) ps n) (sym (kept-preds ns K N))
+    ap (λ gs. all-resolved (λ q. resolve-in d ce gs q) (predsOf ns w g) n) (sym (kept-list ns root 0 K L)) ∙ ap (λ ps. all-resolved (λ q. resolve-in d ce (givensOf ns w₁ root 0 l) q) ps n) (sym (kept-preds ns K N))
 
 module _ {ns w il : List ℕ} {top left sp : ℕ} {root : Root} {l g : ℕ} (R : ReadyResolve ns w il top left sp root l g) (cl : List ℕ) (d : ℕ) {c : Cell} (e : c ≡ cellOf w g) where
   -- There are none.

@@ -20,7 +20,7 @@ use Rattle.instances.proofs.Held.{stored-kept, heads-kept}
 use Rattle.cores.specs.Terms.{core, cores}
 use Rattle.supers.specs.Givens.{givensOf}
 use Rattle.supers.specs.declared.Root.{Root}
-use Rattle.supers.proofs.GivenLaws.{kept-givens}
+use Rattle.supers.proofs.GivenLaws.{kept-list}
 use Rattle.resolve.specs.Ways.{at-hand, by, way-to, dictionary, follow}
 use Rattle.resolve.specs.Resolves.{Declared, ReadyResolve, ReadyBuild, CoreAs, GivesCore, Chooses, WayAs, GivesWay}
 use Rattle.resolve.specs.declared.Resolved.{Resolved}
@@ -120,7 +120,7 @@ module _ {ns w il : List ℕ} {top left sp : ℕ} {root : Root} {l t : ℕ} (R :
                 record {
                   is = then-done _ l₁ (goes-way d left ce _ _ hd hl) (chose .is ce D .is) ∙ o .is
                       ∙ ap (λ gs. after (all-resolved (λ q. resolve-in (d - 1) ce gs q) (predsOf ns w₁ g) l₁) (λ es. dictionary (record { index = i; inst = chose .is ce D .inst; fills = subAt ns w₁ (sp - 2 * k) k }) es))
-                      (sym (kept-givens ns root 0 (W .stands .low) (R .givens)));
+                      (sym (kept-list ns root 0 (W .stands .low) (R .givens)));
                 }
 
             -- The environment, for them.

@@ -29,12 +29,12 @@ use Rattle.supers.specs.Search.{ReadyIn, ReadySearch}
 use Rattle.supers.proofs.RowLaws.{kept-rows, kept-binders-in, row-pending}
 
 -- Words that keep a table have the givens of its lists.
-kept-list : {w w′ : List ℕ} {top l : ℕ} (ns : List ℕ) (root : Root) (i : ℕ) → Kept w w′ top → Node w top l → givensOf ns w′ root i l ≡ givensOf ns w root i l
+pub kept-list : {w w′ : List ℕ} {top l : ℕ} (ns : List ℕ) (root : Root) (i : ℕ) → Kept w w′ top → Node w top l → givensOf ns w′ root i l ≡ givensOf ns w root i l
 kept-list ns (Context h) i K N = rw (kept-preds ns K N)
 kept-list ns Binder i K N = rw (kept-binders ns K N)
 
 -- And as few.
-kept-few : {w w′ : List ℕ} {top l : ℕ} (ns : List ℕ) (root : Root) (i : ℕ) → Kept w w′ top → Node w top l → Few ns w root i l → Few ns w′ root i l
+pub kept-few : {w w′ : List ℕ} {top l : ℕ} (ns : List ℕ) (root : Root) (i : ℕ) → Kept w w′ top → Node w top l → Few ns w root i l → Few ns w′ root i l
 kept-few ns (Context h) i K N f = rw (kept-preds ns K N) f
 kept-few ns Binder i K N f = tt
 
