@@ -1,0 +1,4 @@
+pub mod Onward
+pub mod Listings
+pub mod TypeLaws
+pub mod ExprLaws
