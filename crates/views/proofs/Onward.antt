@@ -1,9 +1,9 @@
 -- From what a reader has read, back to its parts: what each field held, and where the next one began.
 use mathlib.Core.Path.{_≡_, refl, sym, ap, _∙_, subst}
 use mathlib.Core.Bool.{Bool, true, false}
-use mathlib.Core.List.{List, [], _∷_, _++_}
+use mathlib.Core.List.{List}
 use mathlib.Core.Option.{Option, none, some}
-use Prim.Native.Nat.{ℕ, zero, suc, _+_, _-_, _*_, _<_, _≤_}
+use Prim.Native.Nat.{ℕ, _+_, _-_, _*_, _<_, _≤_}
 use native.Mathlib.Omega.{arith}
 use lib.ListN.{length, getD, List·getD-eq-default}
 use Rattle.meaning.specs.Base.{if, count, nth}
@@ -29,6 +29,13 @@ bad-not-got r a next rest e = let z : _≡_ {A = ℕ} 0 1 = cc in omega arith
 -- What was read is what the reader ends with.
 pub read-is : {A : Type 0} (a b : A) (p next : ℕ) (bs rest : List ℕ) → got a p bs ≡ got b next rest → b ≡ a
 read-is a b p next bs rest e = cc
+
+pub read-ends : {A : Type 0} (a b : A) (p next : ℕ) (bs rest : List ℕ) → got a p bs ≡ got b next rest → (next ≡ p) × (rest ≡ bs)
+read-ends a b p next bs rest e = (cc, cc)
+
+-- The same number by another name.
+pub by-number : {A : Type 0} {xs : List A} {u v : ℕ} {x : A} → u ≡ v → Named xs v x → Named xs u x
+by-number e h = record { there = rw e (h .there) }
 
 -- ## words past the end of the index
 pub past-base : (ix : List ℕ) (b i : ℕ) → length ix ≤ b → 0 ≡ getD ix (b + i) 0
@@ -116,11 +123,13 @@ one-of-moves xs bytes = record { at = λ p x next rest e. let i = item-ends form
 -- The same where some things are refused.
 pub unless-moves : {A : Type 0} (f : A → Bool) (xs : List A) (bytes : List ℕ) → Moves bytes 2 (λ p x. Named xs (numberAt bytes p) x) (item reserved (one-of xs) (unless f))
 unfolding item
-unless-moves f xs bytes = record { at = λ p x next rest e.
-    let q = parted (one-of xs p (from p bytes)) (λ a. or-bad (reserved p) (unless f a)) x next rest e in
-    let i = one-of-moves xs bytes .at p (q .value) (q .place) (q .left) (q .first) in
-    let t = or-bad-got (reserved p) (unless f (q .value)) (q .place) (q .left) x next rest (q .second) in
-    (subst (λ a. Named xs (numberAt bytes p) a) (unless-same f (q .value) x (t .0)) (i .0), t .1 ∙ i .1, t .2 ∙ i .2) }
+unless-moves f xs bytes = record {
+  at = λ p x next rest e.
+      let q = parted (one-of xs p (from p bytes)) (λ a. or-bad (reserved p) (unless f a)) x next rest e in
+      let i = one-of-moves xs bytes .at p (q .value) (q .place) (q .left) (q .first) in
+      let t = or-bad-got (reserved p) (unless f (q .value)) (q .place) (q .left) x next rest (q .second) in
+      (subst (λ a. Named xs (numberAt bytes p) a) (unless-same f (q .value) x (t .0)) (i .0), t .1 ∙ i .1, t .2 ∙ i .2);
+}
 
 pub variable-moves : (ns : List Name) (bytes : List ℕ) → Moves bytes 2 (λ p x. Named ns (numberAt bytes p) x) (variable ns)
 unfolding variable
@@ -141,10 +150,14 @@ pub went : {A B : Type 0} {bytes : List ℕ} {m : ℕ} {P : ℕ → A → Type 0
 went {bytes = bytes} {m = m} {r = r} g f p q b next rest h e =
     let o = parted (r p (from p bytes)) f b next rest e in
     let i = g .at p (o .value) (o .place) (o .left) (o .first) in
-    record { value = o .value; such = i .0; then =
-      subst (λ n. f (o .value) n (from n bytes) ≡ got b next rest) h
-      (subst (λ n. f (o .value) n (from (p + m) bytes) ≡ got b next rest) (i .1)
-      (subst (λ bs. f (o .value) (o .place) bs ≡ got b next rest) (i .2) (o .second))) }
+    record {
+      value = o .value;
+      such = i .0;
+      then =
+          subst (λ n. f (o .value) n (from n bytes) ≡ got b next rest) h
+          (subst (λ n. f (o .value) n (from (p + m) bytes) ≡ got b next rest) (i .1)
+          (subst (λ bs. f (o .value) (o .place) bs ≡ got b next rest) (i .2) (o .second)));
+    }
 
 -- ## tags
 module _ {A : Type 0} (bytes : List ℕ) (rs : List (Reader A)) (at : ℕ) (x : A) (next : ℕ) (rest : List ℕ) (e : tagged rs at (from at bytes) ≡ got x next rest) where

@@ -1,50 +1,65 @@
 -- Types: what the code reads at a place is what the definition reads there.
-use mathlib.Core.Path.{_≡_, refl, sym, ap, _∙_, subst}
-use mathlib.Core.List.{List, [], _∷_}
-use mathlib.Core.Option.{some}
-use Prim.Native.Nat.{ℕ, _+_, _<_, _≤_}
+use mathlib.Core.Path.{_≡_, refl, _∙_, subst}
+use mathlib.Core.List.{List}
+use Prim.Native.Nat.{ℕ, _+_, _≤_}
 use native.Mathlib.Omega.{arith}
 use lib.ListN.{getD}
 use Rattle.meaning.specs.Base.{count, nth}
-use Rattle.meaning.specs.Ast.{Name, named, Ty, var, con, arrow}
-use Rattle.meaning.specs.Reader.{Read, got, Reader, onward, from, one-of, list-of, tagged}
+use Rattle.meaning.specs.Ast.{named, var, con, arrow}
+use Rattle.meaning.specs.Reader.{got, onward, one-of, list-of}
 use Rattle.meaning.specs.File.{tys-of, var-node, con-node, arrow-node, type-node}
 use Rattle.theorems.proofs.Grown.{nth-below}
 use Rattle.reader.specs.declared.Field.the-variants.{Is, Cut}
 use Rattle.reader.specs.Verdicts.{IsField}
-use Rattle.sections.specs.Parts.{upto, Placed}
+use Rattle.sections.specs.Parts.{upto}
 use Rattle.views.specs.declared.TypeNode.{TypeNode}
 use Rattle.views.specs.declared.TypeNode.the-variants.{Var, Con, Arrow, Nothing}
-use Rattle.views.specs.Numbers.{numberAt, CountRead, Named, NamedAll}
-use Rattle.views.specs.TypeViews.{TypeAs, TypeRead, IsType}
-use Rattle.views.proofs.Onward.{read-is, went, one-of-moves, variable-moves, tag-chose, tag-below, tag-there}
+use Rattle.views.specs.Numbers.{numberAt, CountRead, NamedAll}
+use Rattle.views.specs.TypeViews.{TypeRead, IsType}
+use Rattle.views.proofs.Onward.{read-is, by-number, went, one-of-moves, variable-moves, tag-chose, tag-below, tag-there}
 use Rattle.views.proofs.Listings.{numbers-went}
 
 module _ (bytes : List ℕ) (at tag : ℕ) (f : IsField 1 bytes at (Is tag)) where
   pub type-var : (x : ℕ) → tag ≡ 0 → x ≡ numberAt bytes (at + 1) → TypeRead bytes at (Var x)
   unfolding type-node var-node nth
-  type-var x z d = record { is = λ ns ts t next rest e.
-      let c = tag-chose bytes _ at t next rest e (var-node ns) tag f (rw z refl) in
-      let w = went (variable-moves ns bytes) (λ n p bs. got (var (named n)) p bs) (at + 1) (at + 1 + 2) t next rest refl c in
-      record { name = w .value; named-so = subst (λ v. Named ns v (w .value)) (sym d) (w .such); is = read-is _ t _ next _ rest (w .then) } }
+  type-var x z d = record {
+    is = λ ns ts t next rest e.
+        let c = tag-chose bytes _ at t next rest e (var-node ns) tag f (rw z refl) in
+        let w = went (variable-moves ns bytes) (λ n p bs. got (var (named n)) p bs) (at + 1) (at + 1 + 2) t next rest refl c in
+        record { name = w .value; named-so = by-number d (w .such); is = read-is _ t _ next _ rest (w .then) };
+  }
 
   pub type-con : (c p k : ℕ) → tag ≡ 1 → c ≡ numberAt bytes (at + 1) → p ≡ at + 5 → CountRead bytes (at + 3) k → TypeRead bytes at (Con c p k)
   unfolding type-node con-node nth
-  type-con c p k z d h r = record { is = λ ns ts t next rest e.
-      let i = tag-chose bytes _ at t next rest e (con-node ns ts) tag f (rw z refl) in
-      let w = went (one-of-moves ns bytes) (λ n q bs. onward (list-of (one-of ts) q bs) (λ us q bs. got (con n (tys-of us)) q bs)) (at + 1) (at + 3) t next rest (omega arith) i in
-      let l = numbers-went bytes ts (λ us q bs. got (con (w .value) (tys-of us)) q bs) (at + 3) _ k t next rest r refl (w .then) in
-      record { name = w .value; arguments = l .value; named-so = subst (λ v. Named ns v (w .value)) (sym d) (w .such);
-        each = subst (λ q. NamedAll bytes ts q k (l .value)) (let y : at + 3 + 2 ≡ p = omega (arith, h) in y) (l .such); is = read-is _ t _ next _ rest (l .then) } }
+  type-con c p k z d h r = record {
+    is = λ ns ts t next rest e.
+        let i = tag-chose bytes _ at t next rest e (con-node ns ts) tag f (rw z refl) in
+        let w = went (one-of-moves ns bytes) (λ n q bs. onward (list-of (one-of ts) q bs) (λ us q bs. got (con n (tys-of us)) q bs)) (at + 1) (at + 3) t next rest (omega arith) i in
+        let l = numbers-went bytes ts (λ us q bs. got (con (w .value) (tys-of us)) q bs) (at + 3) _ k t next rest r refl (w .then) in
+        record {
+          name = w .value;
+          arguments = l .value;
+          named-so = by-number d (w .such);
+          each = subst (λ q. NamedAll bytes ts q k (l .value)) (let y : at + 3 + 2 ≡ p = omega (arith, h) in y) (l .such);
+          is = read-is _ t _ next _ rest (l .then);
+        };
+  }
 
   pub type-arrow : (a b : ℕ) → tag ≡ 2 → a ≡ numberAt bytes (at + 1) → b ≡ numberAt bytes (at + 3) → TypeRead bytes at (Arrow a b)
   unfolding type-node arrow-node nth
-  type-arrow a b z d h = record { is = λ ns ts t next rest e.
-      let i = tag-chose bytes _ at t next rest e (arrow-node ts) tag f (rw z refl) in
-      let w = went (one-of-moves ts bytes) (λ u q bs. onward (one-of ts q bs) (λ v q bs. got (arrow u v) q bs)) (at + 1) (at + 3) t next rest (omega arith) i in
-      let l = went (one-of-moves ts bytes) (λ v q bs. got (arrow (w .value) v) q bs) (at + 3) (at + 3 + 2) t next rest refl (w .then) in
-      record { left = w .value; right = l .value; left-so = subst (λ v. Named ts v (w .value)) (sym d) (w .such); right-so = subst (λ v. Named ts v (l .value)) (sym h) (l .such);
-        is = read-is _ t _ next _ rest (l .then) } }
+  type-arrow a b z d h = record {
+    is = λ ns ts t next rest e.
+        let i = tag-chose bytes _ at t next rest e (arrow-node ts) tag f (rw z refl) in
+        let w = went (one-of-moves ts bytes) (λ u q bs. onward (one-of ts q bs) (λ v q bs. got (arrow u v) q bs)) (at + 1) (at + 3) t next rest (omega arith) i in
+        let l = went (one-of-moves ts bytes) (λ v q bs. got (arrow (w .value) v) q bs) (at + 3) (at + 3 + 2) t next rest refl (w .then) in
+        record {
+          left = w .value;
+          right = l .value;
+          left-so = by-number d (w .such);
+          right-so = by-number h (l .such);
+          is = read-is _ t _ next _ rest (l .then);
+        };
+  }
 
   -- The definition knows no other tag.
   pub type-unknown : 3 ≤ tag → TypeRead bytes at Nothing

@@ -39,3 +39,9 @@ pub record Named {A : Type 0} (xs : List A) (v : ℕ) (x : A) : Type 0 where
 pub record NamedAll {A : Type 0} (bytes : List ℕ) (xs : List A) (p k : ℕ) (us : List A) : Type 0 where
   pub many : count us ≡ k
   pub each : (j : ℕ) (u : A) → nth us j ≡ some u → Named xs (numberAt bytes (p + 2 * j)) u
+
+-- The k rows from the place p on: in each, the numbers of its two parts.
+pub record NamedRows {A B C : Type 0} (bytes : List ℕ) (xs : List A) (ys : List B) (one : C → A) (two : C → B) (p k : ℕ) (us : List C) : Type 0 where
+  pub many : count us ≡ k
+  pub first : (j : ℕ) (u : C) → nth us j ≡ some u → Named xs (numberAt bytes (p + 4 * j)) (one u)
+  pub second : (j : ℕ) (u : C) → nth us j ≡ some u → Named ys (numberAt bytes (p + 4 * j + 2)) (two u)

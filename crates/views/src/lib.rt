@@ -4,11 +4,13 @@ use reader::Count;
 use reader::Field;
 ghost use mathlib.Core.Path.{_≡_};
 ghost use Prim.Native.Nat.{ℕ, _+_, _≤_};
-ghost use lib.ListN.{getD};
+ghost use lib.ListN.{length, getD};
 ghost use Rattle.meaning.specs.Base.{eqb};
+ghost use Rattle.meaning.specs.File.{class-entry, instance-entry, decl-entry};
 ghost use Rattle.views.specs.Numbers.{valueOf, valueAt, numberAt, CountRead};
 ghost use Rattle.views.specs.TypeViews.{TypeRead, IsType};
 ghost use Rattle.views.specs.ExprViews.{ExprRead, IsExpr};
+ghost use Rattle.views.specs.DeclViews.{EntryRead, IsDecl};
 
 // A type: a variable's name; a constructor's name, the place of its first argument and how many there are; the two
 // sides of an arrow. Nothing where no node stands.
@@ -27,6 +29,22 @@ pub enum ExprNode {
     Abs(usize, usize),
     App(usize, usize),
     Let(usize, usize, usize),
+    Nothing,
+}
+
+// A list of the file: the place of its first item, and how many there are.
+pub struct Listed {
+    pub at: usize,
+    pub count: usize,
+}
+
+// A declaration. A class: name, variable, superclasses of 2 bytes each, signatures and defaults of 4 bytes each. An
+// instance: context of 4 bytes each, head class, head type, methods of 4 bytes each. Nothing where none stands.
+pub enum DeclNode {
+    Class(usize, usize, Listed, Listed, Listed),
+    Instance(Listed, usize, usize, Listed),
+    Let(usize, usize),
+    Check(usize),
     Nothing,
 }
 
@@ -167,4 +185,91 @@ pub fn expr_at(src: &[u8], index: &[u64], i: usize) -> ExprNode
 {
     let at = place(index, 6144, i);
     expr_read(src, at)
+}
+
+// The class after its tag.
+fn class_read(src: &[u8], at: usize) -> DeclNode
+    requires { ⌜ at ≤ length (now src) ⌝ }
+    ensures { λ r. ⌜ EntryRead class-entry (now (src .entry)) at r ⌝ }
+{
+    let c = number_at(src, at);
+    let a = number_at(src, at + 2);
+    let k = count_at(src, at + 4);
+    let p = at + 6 + 2 * k;
+    let m = count_at(src, p);
+    let q = p + 2 + 4 * m;
+    let n = count_at(src, q);
+    DeclNode::Class(
+        c,
+        a,
+        Listed {
+            at: at + 6,
+            count: k,
+        },
+        Listed {
+            at: p + 2,
+            count: m,
+        },
+        Listed {
+            at: q + 2,
+            count: n,
+        },
+    )
+}
+
+// The instance after its tag.
+fn instance_read(src: &[u8], at: usize) -> DeclNode
+    requires { ⌜ at ≤ length (now src) ⌝ }
+    ensures { λ r. ⌜ EntryRead instance-entry (now (src .entry)) at r ⌝ }
+{
+    let k = count_at(src, at);
+    let p = at + 2 + 4 * k;
+    let c = number_at(src, p);
+    let t = number_at(src, p + 2);
+    let m = count_at(src, p + 4);
+    DeclNode::Instance(
+        Listed {
+            at: at + 2,
+            count: k,
+        },
+        c,
+        t,
+        Listed {
+            at: p + 6,
+            count: m,
+        },
+    )
+}
+
+// The declaration at a place: tag byte 0 class; 1 instance; 2 let; 3 check.
+fn decl_read(src: &[u8], at: usize) -> DeclNode
+    ensures { λ r. ⌜ EntryRead decl-entry (now (src .entry)) at r ⌝ }
+{
+    let t = reader::byte(src, at);
+    match t {
+        Field::Cut => DeclNode::Nothing,
+        Field::Is(tag) => {
+            if tag == 0 {
+                return class_read(src, at + 1);
+            }
+            if tag == 1 {
+                return instance_read(src, at + 1);
+            }
+            if tag == 2 {
+                return DeclNode::Let(number_at(src, at + 1), number_at(src, at + 3));
+            }
+            if tag == 3 {
+                return DeclNode::Check(number_at(src, at + 1));
+            }
+            DeclNode::Nothing
+        }
+    }
+}
+
+// Declaration i of the file.
+pub fn decl_at(src: &[u8], index: &[u64], i: usize) -> DeclNode
+    ensures { λ r. ⌜ IsDecl (now (src .entry)) (now (index .entry)) i r ⌝ }
+{
+    let at = place(index, 10240, i);
+    decl_read(src, at)
 }
