@@ -9,8 +9,8 @@ use native.Mathlib.Decide.{ℕ-discrete}
 use lib.ListN.{getD}
 use Rattle.meaning.specs.Base.{eqb, count, nth}
 use Rattle.meaning.specs.Errors.{format}
-use Rattle.meaning.specs.Ast.{evar, eint, ebool, eabs, eapp, elet}
-use Rattle.meaning.specs.Reader.{got, onward, item, numeral, one-of}
+use Rattle.meaning.specs.Ast.{eint, ebool}
+use Rattle.meaning.specs.Reader.{item, numeral}
 use Rattle.meaning.specs.File.{word, evar-node, int-node, bool-node, abs-node, app-node, let-node, expr-node}
 use Rattle.theorems.proofs.Tests.{some-inj, none-some, eqb-of, no?-of}
 use Rattle.theorems.proofs.Grown.{nth-below}
@@ -46,7 +46,7 @@ module _ (bytes : List ℕ) (at tag : ℕ) (f : IsField 1 bytes at (Is tag)) whe
   expr-var x z d = record {
     is = λ ns es t next rest e.
         let c = tag-chose bytes _ at t next rest e (evar-node ns) tag f (rw z refl) in
-        let w = went (word-moves ns bytes) (λ n p bs. got (evar n) p bs) (at + 1) (at + 1 + 2) t next rest refl c in
+        let w = went (word-moves ns bytes) _ (at + 1) (at + 1 + 2) t next rest refl c in
         record { name = w .value; named-so = by-number d (w .such); is = read-is _ t _ next _ rest (w .then) };
   }
 
@@ -55,7 +55,7 @@ module _ (bytes : List ℕ) (at tag : ℕ) (f : IsField 1 bytes at (Is tag)) whe
   expr-int v z d = record {
     is = λ ns es t next rest e.
         let c = tag-chose bytes _ at t next rest e int-node tag f (rw z refl) in
-        let w = went (numeral-moves 8 bytes) (λ n p bs. got (eint n) p bs) (at + 1) (at + 1 + 8) t next rest refl c in
+        let w = went (numeral-moves 8 bytes) _ (at + 1) (at + 1 + 8) t next rest refl c in
         read-is _ t _ next _ rest (w .then) ∙ ap eint (sym (w .such) ∙ sym d);
   }
 
@@ -64,7 +64,7 @@ module _ (bytes : List ℕ) (at tag : ℕ) (f : IsField 1 bytes at (Is tag)) whe
   expr-bool b z d = record {
     is = λ ns es t next rest e.
         let c = tag-chose bytes _ at t next rest e bool-node tag f (rw z refl) in
-        let w = went (flag-moves bytes) (λ n p bs. got (ebool n) p bs) (at + 1) (at + 1 + 1) t next rest refl c in
+        let w = went (flag-moves bytes) _ (at + 1) (at + 1 + 1) t next rest refl c in
         read-is _ t _ next _ rest (w .then) ∙ ap ebool (sym (w .such) ∙ sym d);
   }
 
@@ -73,8 +73,8 @@ module _ (bytes : List ℕ) (at tag : ℕ) (f : IsField 1 bytes at (Is tag)) whe
   expr-abs x b z d h = record {
     is = λ ns es t next rest e.
         let i = tag-chose bytes _ at t next rest e (abs-node ns es) tag f (rw z refl) in
-        let w = went (word-moves ns bytes) (λ n q bs. onward (one-of es q bs) (λ u q bs. got (eabs n u) q bs)) (at + 1) (at + 3) t next rest (omega arith) i in
-        let l = went (one-of-moves es bytes) (λ u q bs. got (eabs (w .value) u) q bs) (at + 3) (at + 3 + 2) t next rest refl (w .then) in
+        let w = went (word-moves ns bytes) _ (at + 1) (at + 3) t next rest (omega arith) i in
+        let l = went (one-of-moves es bytes) _ (at + 3) (at + 3 + 2) t next rest refl (w .then) in
         record {
           name = w .value;
           body = l .value;
@@ -89,8 +89,8 @@ module _ (bytes : List ℕ) (at tag : ℕ) (f : IsField 1 bytes at (Is tag)) whe
   expr-app g a z d h = record {
     is = λ ns es t next rest e.
         let i = tag-chose bytes _ at t next rest e (app-node es) tag f (rw z refl) in
-        let w = went (one-of-moves es bytes) (λ n q bs. onward (one-of es q bs) (λ u q bs. got (eapp n u) q bs)) (at + 1) (at + 3) t next rest (omega arith) i in
-        let l = went (one-of-moves es bytes) (λ u q bs. got (eapp (w .value) u) q bs) (at + 3) (at + 3 + 2) t next rest refl (w .then) in
+        let w = went (one-of-moves es bytes) _ (at + 1) (at + 3) t next rest (omega arith) i in
+        let l = went (one-of-moves es bytes) _ (at + 3) (at + 3 + 2) t next rest refl (w .then) in
         record {
           function = w .value;
           argument = l .value;
@@ -105,9 +105,9 @@ module _ (bytes : List ℕ) (at tag : ℕ) (f : IsField 1 bytes at (Is tag)) whe
   expr-let x b g z d h j = record {
     is = λ ns es t next rest e.
         let i = tag-chose bytes _ at t next rest e (let-node ns es) tag f (rw z refl) in
-        let w = went (word-moves ns bytes) (λ n q bs. onward (one-of es q bs) (λ u q bs. onward (one-of es q bs) (λ v q bs. got (elet n u v) q bs))) (at + 1) (at + 3) t next rest (omega arith) i in
-        let l = went (one-of-moves es bytes) (λ u q bs. onward (one-of es q bs) (λ v q bs. got (elet (w .value) u v) q bs)) (at + 3) (at + 5) t next rest (omega arith) (w .then) in
-        let m = went (one-of-moves es bytes) (λ v q bs. got (elet (w .value) (l .value) v) q bs) (at + 5) (at + 5 + 2) t next rest refl (l .then) in
+        let w = went (word-moves ns bytes) _ (at + 1) (at + 3) t next rest (omega arith) i in
+        let l = went (one-of-moves es bytes) _ (at + 3) (at + 5) t next rest (omega arith) (w .then) in
+        let m = went (one-of-moves es bytes) _ (at + 5) (at + 5 + 2) t next rest refl (l .then) in
         record {
           name = w .value;
           bound = l .value;

@@ -36,15 +36,16 @@ one-more : {A : Type 0} (xs : List A) (x : A) (ys : List A) → (xs ++ x ∷ [])
 one-more [] x ys = refl
 one-more (z ∷ xs) x ys = ap (λ zs. z ∷ zs) (one-more xs x ys)
 
--- Items behind the place p: n of them, after those in xs, up to the next place.
-pub record Spaced {A : Type 0} (bytes : List ℕ) (times : ℕ → ℕ) (P : ℕ → A → Type 0) (n p : ℕ) (us : List A) : Type 0 where
+-- The n items from the place p on: item j is such a thing for its own place.
+pub record Spaced {A : Type 0} (times : ℕ → ℕ) (P : ℕ → A → Type 0) (n p : ℕ) (us : List A) : Type 0 where
   pub many : count us ≡ n
   pub each : (j : ℕ) (u : A) → nth us j ≡ some u → P (p + times j) u
 
+-- Items read after those in xs, from the place p up to the next one.
 record Behind {A : Type 0} (bytes : List ℕ) (times : ℕ → ℕ) (P : ℕ → A → Type 0) (n p : ℕ) (xs us : List A) (next : ℕ) (rest : List ℕ) : Type 0 where
   new : List A
   whole : us ≡ xs ++ new
-  listed : Spaced bytes times P n p new
+  listed : Spaced times P n p new
   place : next ≡ p + times n
   left : rest ≡ from (p + times n) bytes
 
@@ -73,7 +74,7 @@ module _ {A : Type 0} (bytes : List ℕ) (m : ℕ) (times : ℕ → ℕ) (zeroth
   step : (n p : ℕ) → p + m + times n ≡ p + times (suc n)
   step n p = omega (arith, more n)
 
-  listed-more : (n p : ℕ) (x : A) (us : List A) → P p x → Spaced bytes times P n (p + m) us → Spaced bytes times P (suc n) p (x ∷ us)
+  listed-more : (n p : ℕ) (x : A) (us : List A) → P p x → Spaced times P n (p + m) us → Spaced times P (suc n) p (x ∷ us)
   unfolding count nth
   listed-more n p x us h l = record { many = ap suc (l .many); each = λ j u i. go j u i }
     where
@@ -97,7 +98,7 @@ module _ {A : Type 0} (bytes : List ℕ) (m : ℕ) (times : ℕ → ℕ) (zeroth
 
   -- After a list whose count is k: its items, and what follows at their end q.
   pub list-went : {B : Type 0} (f : List A → Reader B) (p q k : ℕ) (b : B) (next : ℕ) (rest : List ℕ) → CountRead bytes p k → p + 2 + times k ≡ q
-      → onward (list-of r p (from p bytes)) f ≡ got b next rest → Went (Spaced bytes times P k (p + 2)) f bytes q b next rest
+      → onward (list-of r p (from p bytes)) f ≡ got b next rest → Went (Spaced times P k (p + 2)) f bytes q b next rest
   unfolding list-of section
   list-went f p q k b next rest c h e =
       let o = parted (list-of r p (from p bytes)) f b next rest e in
@@ -110,7 +111,7 @@ module _ {A : Type 0} (bytes : List ℕ) (m : ℕ) (times : ℕ → ℕ) (zeroth
       let g = behind k (p + 2) [] (o .value) (o .place) (o .left) i in
       record {
         value = o .value;
-        such = subst (λ us. Spaced bytes times P k (p + 2) us) (sym (g .whole)) (g .listed);
+        such = subst (λ us. Spaced times P k (p + 2) us) (sym (g .whole)) (g .listed);
         then =
             subst (λ j. f (o .value) j (from j bytes) ≡ got b next rest) h
             (subst (λ j. f (o .value) j (from (p + 2 + times k) bytes) ≡ got b next rest) (g .place)

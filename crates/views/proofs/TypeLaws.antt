@@ -5,9 +5,7 @@ use Prim.Native.Nat.{ℕ, _+_, _≤_}
 use native.Mathlib.Omega.{arith}
 use lib.ListN.{getD}
 use Rattle.meaning.specs.Base.{count, nth}
-use Rattle.meaning.specs.Ast.{named, var, con, arrow}
-use Rattle.meaning.specs.Reader.{got, onward, one-of, list-of}
-use Rattle.meaning.specs.File.{tys-of, var-node, con-node, arrow-node, type-node}
+use Rattle.meaning.specs.File.{var-node, con-node, arrow-node, type-node}
 use Rattle.theorems.proofs.Grown.{nth-below}
 use Rattle.reader.specs.declared.Field.the-variants.{Is, Cut}
 use Rattle.reader.specs.Verdicts.{IsField}
@@ -25,7 +23,7 @@ module _ (bytes : List ℕ) (at tag : ℕ) (f : IsField 1 bytes at (Is tag)) whe
   type-var x z d = record {
     is = λ ns ts t next rest e.
         let c = tag-chose bytes _ at t next rest e (var-node ns) tag f (rw z refl) in
-        let w = went (variable-moves ns bytes) (λ n p bs. got (var (named n)) p bs) (at + 1) (at + 1 + 2) t next rest refl c in
+        let w = went (variable-moves ns bytes) _ (at + 1) (at + 1 + 2) t next rest refl c in
         record { name = w .value; named-so = by-number d (w .such); is = read-is _ t _ next _ rest (w .then) };
   }
 
@@ -34,8 +32,8 @@ module _ (bytes : List ℕ) (at tag : ℕ) (f : IsField 1 bytes at (Is tag)) whe
   type-con c p k z d h r = record {
     is = λ ns ts t next rest e.
         let i = tag-chose bytes _ at t next rest e (con-node ns ts) tag f (rw z refl) in
-        let w = went (one-of-moves ns bytes) (λ n q bs. onward (list-of (one-of ts) q bs) (λ us q bs. got (con n (tys-of us)) q bs)) (at + 1) (at + 3) t next rest (omega arith) i in
-        let l = numbers-went bytes ts (λ us q bs. got (con (w .value) (tys-of us)) q bs) (at + 3) _ k t next rest r refl (w .then) in
+        let w = went (one-of-moves ns bytes) _ (at + 1) (at + 3) t next rest (omega arith) i in
+        let l = numbers-went bytes ts _ (at + 3) _ k t next rest r refl (w .then) in
         record {
           name = w .value;
           arguments = l .value;
@@ -50,8 +48,8 @@ module _ (bytes : List ℕ) (at tag : ℕ) (f : IsField 1 bytes at (Is tag)) whe
   type-arrow a b z d h = record {
     is = λ ns ts t next rest e.
         let i = tag-chose bytes _ at t next rest e (arrow-node ts) tag f (rw z refl) in
-        let w = went (one-of-moves ts bytes) (λ u q bs. onward (one-of ts q bs) (λ v q bs. got (arrow u v) q bs)) (at + 1) (at + 3) t next rest (omega arith) i in
-        let l = went (one-of-moves ts bytes) (λ v q bs. got (arrow (w .value) v) q bs) (at + 3) (at + 3 + 2) t next rest refl (w .then) in
+        let w = went (one-of-moves ts bytes) _ (at + 1) (at + 3) t next rest (omega arith) i in
+        let l = went (one-of-moves ts bytes) _ (at + 3) (at + 3 + 2) t next rest refl (w .then) in
         record {
           left = w .value;
           right = l .value;
