@@ -1,0 +1,6 @@
+pub mod Onward
+pub mod Listings
+pub mod TypeLaws
+pub mod ExprLaws
+pub mod DeclLaws
+pub mod Earlier

@@ -1,0 +1,4 @@
+pub mod Numbers
+pub mod TypeViews
+pub mod ExprViews
+pub mod DeclViews
