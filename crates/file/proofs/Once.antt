@@ -20,7 +20,7 @@ use Rattle.errors.specs.declared.Refusal.the-variants.{Format, Limit, Reserved,
 use Rattle.names.specs.Names.{nameOf}
 use Rattle.body.specs.declared.Reading.{Reading}
 use Rattle.body.specs.declared.Reading.the-variants.{Good, Bad}
-use Rattle.file.specs.Reading.{Reads}
+use Rattle.file.specs.Reading.{IsName, Reads}
 
 -- A refusal of a file: one of 1 to 3, with an offset.
 data OfFile (e : Refusal) : Type 0 where
@@ -127,3 +127,7 @@ reads-good bytes ns ix a b c d g = accepted-good bytes (g .is .0) _ _ (g .is .1)
 -- The offset of a refusal lies in the file or at its end.
 pub refuses-within : (bytes ns ix : List ℕ) (e : Refusal) → Reads bytes ns ix (Bad e) → UpTo (count bytes) (refusalOf [] [] e)
 refuses-within bytes ns ix e g = refused-within bytes _ (g .is)
+
+-- The word of the index is the number.
+pub name-word : (ix : List ℕ) (i r : ℕ) → r ≡ getD ix i 0 → IsName ix i r
+name-word ix i r e = record { is = λ bytes ns f a b c d g x h. ap (λ n. nameOf ns n) e ∙ g .names i x h .named }

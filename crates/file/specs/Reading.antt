@@ -9,7 +9,7 @@ use Rattle.meaning.specs.Ast.{Name}
 use Rattle.meaning.specs.Reader.{got, bad, Reader}
 use Rattle.meaning.specs.File as M
 use Rattle.errors.specs.Refusals.{refusalOf}
-use Rattle.names.specs.Names.{Names}
+use Rattle.names.specs.Names.{Names, nameOf}
 use Rattle.rows.specs.BuiltIns.{BuiltIns}
 use Rattle.nametable.specs.Tables.{NameKnown}
 use Rattle.sections.specs.Parts.{Placed}
@@ -43,3 +43,7 @@ ReadsAs bytes ns ix (Bad e) = M.read bytes ≡ bad (refusalOf [] [] e)
 -- The answer to a file's bytes, with the names table and the index as they are left.
 pub record Reads (bytes ns ix : List ℕ) (r : Code.Reading) : Type 0 where
   pub is : ReadsAs bytes ns ix r
+
+-- A number r of a name: in the table of a file that is read it is the number of the file's i-th name.
+pub record IsName (ix : List ℕ) (i r : ℕ) : Type 0 where
+  pub is : (bytes ns : List ℕ) (f : M.File) (a b c d : ℕ) → Indexed bytes ns ix f a b c d → (x : Name) → nth (f .names) i ≡ some x → nameOf ns r ≡ x

@@ -7,7 +7,7 @@ use reader::Place;
 ghost use mathlib.Core.Path.{_≡_};
 ghost use Prim.Native.Nat.{ℕ, _≤_};
 ghost use lib.ListN.{length};
-ghost use Rattle.file.specs.Reading.{Reads};
+ghost use Rattle.file.specs.Reading.{IsName, Reads};
 
 // A file whose length is within its limit.
 fn read_all(src: &[u8], names: &mut [u64], index: &mut [u64]) -> Reading
@@ -46,4 +46,14 @@ pub fn read(src: &[u8], names: &mut [u64; 4236], index: &mut [u64; 10752]) -> Re
         return Reading::Bad(Refusal::Limit(0));
     }
     read_all(src, names, index)
+}
+
+// The number of the file's i-th name in the table of names; of a number that the index has not, 0.
+pub fn name_number(index: &[u64], i: usize) -> usize
+    ensures { λ r. ⌜ IsName (now (index .entry)) i r ⌝ }
+{
+    if i >= index.len() {
+        return 0;
+    }
+    index[i] as usize
 }
