@@ -1,13 +1,13 @@
 -- The ways out of `add_instance`.
-use mathlib.Core.Path.{_≡_, refl, sym, ap, _∙_}
+use mathlib.Core.Path.{_≡_, refl, _∙_}
 use mathlib.Core.Bool.{Bool, true, false, not, true≢false, false≢true}
 use mathlib.Core.List.{List}
 use mathlib.Core.Option.{Option, none, some}
-use Prim.Native.Nat.{ℕ, _+_, _*_, _≤_}
+use Prim.Native.Nat.{ℕ}
 use native.Mathlib.Omega.{arith}
 use Rattle.meaning.specs.Ast.{Pred}
 use Rattle.meaning.specs.Errors.{unknown-class}
-use Rattle.meaning.specs.Budget.{done, refused, after, or-refuse, pure}
+use Rattle.meaning.specs.Budget.{refused, after, or-refuse, pure}
 use Rattle.meaning.specs.Classes.{ClassEnv, ClassInfo, InstanceInfo, class-of, none-overlaps, with-instance, add-instance}
 use Rattle.names.specs.Names.{nameOf}
 use Rattle.errors.specs.declared.Refusal.the-variants.{UnknownClass}
