@@ -1,22 +1,22 @@
 -- A class environment with one more class, by its words; and the ways out of `add_class`.
 use mathlib.Core.Path.{_≡_, refl, sym, ap, _∙_}
-use mathlib.Core.Bool.{Bool, true, false, not, true≢false, false≢true}
-use mathlib.Core.List.{List, [], _∷_, map}
-use mathlib.Core.Option.{Option, none, some}
-use Prim.Native.Nat.{ℕ, _+_, _*_, _<_, _≤_}
+use mathlib.Core.Bool.{true}
+use mathlib.Core.List.{List, map}
+use mathlib.Core.Option.{some}
+use Prim.Native.Nat.{ℕ, _<_}
 use native.Mathlib.Decide.{ℕ-discrete}
 use native.Mathlib.Omega.{arith}
 use lib.ListN.{length, getD}
 use Rattle.meaning.specs.Ast.{Name}
-use Rattle.meaning.specs.Budget.{done, refused, after}
+use Rattle.meaning.specs.Budget.{done, after}
 use Rattle.meaning.specs.Map.{names}
 use Rattle.meaning.specs.Classes.{ClassEnv, ClassInfo, class-of, supers-of, supers-known, with-class, add-class}
 use Rattle.theorems.proofs.Maps.{get-insert-same, get-insert-other}
-use Rattle.names.specs.Names.{nameOf, Names}
+use Rattle.names.specs.Names.{nameOf}
 use Rattle.names.proofs.Distinct.{nameOf-same}
 use Rattle.errors.specs.declared.Refusal.the-variants.{MissingSuperclass}
 use Rattle.supers.specs.ClassTable.{declaredAt, supersOf, Supers}
-use Rattle.classes.specs.Growing.{some?, Declared, ClassTable}
+use Rattle.classes.specs.Growing.{some?, Declared}
 use Rattle.classes.specs.Adding.{Knows, ReadyClass, IsClass, PutClass, PutAs, Puts, AddsClass}
 use Rattle.classes.specs.declared.Known.{Known}
 use Rattle.classes.specs.declared.Known.the-variants.{All, Missing}

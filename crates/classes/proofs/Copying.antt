@@ -1,13 +1,13 @@
 -- Laws of the words that a new class takes: its superclasses are copied one by one, and then its row is written.
-use mathlib.Core.Path.{_≡_, refl, sym, _∙_}
+use mathlib.Core.Path.{_≡_, refl, _∙_}
 use mathlib.Core.List.{List}
-use Prim.Native.Nat.{ℕ, _+_, _*_, _-_, _/_, _<_, _≤_}
+use Prim.Native.Nat.{ℕ, _+_, _*_, _<_, _≤_}
 use native.Mathlib.Decide.{decLt}
 use native.Mathlib.Omega.{arith}
 use lib.ListN.{length, getD, set, length-set}
 use lib.Seq.{getD-set-same, getD-set-other}
 use Rattle.classes.specs.Growing.{Copied}
-use Rattle.classes.specs.Adding.{PutClass, Puts}
+use Rattle.classes.specs.Adding.{Puts}
 use Rattle.classes.specs.declared.Added.the-variants.{Done, Full}
 
 -- Before the loop.

@@ -1,21 +1,20 @@
 -- Tables of zeros are those of the class environment with no classes.
 use mathlib.Core.Path.{_≡_, refl, sym, ap, _∙_}
-use mathlib.Core.Bool.{Bool, true, false, _&&_, true≢false, false≢true}
+use mathlib.Core.Bool.{false, false≢true}
 use mathlib.Core.List.{List, map}
-use Prim.Native.Nat.{ℕ, _+_, _*_, _<_, _≤_}
+use Prim.Native.Nat.{ℕ, _+_, _*_, _≤_}
 use native.Mathlib.Omega.{arith}
 use lib.Dec.{ltb}
 use lib.ListN.{length, getD}
 use borrow.Author.Tests.{le-ltb}
 use Rattle.meaning.specs.Base.{found}
 use Rattle.meaning.specs.Map.{get}
-use Rattle.meaning.specs.Classes.{class-of, supers-of, no-classes, lookup-method}
+use Rattle.meaning.specs.Classes.{supers-of, no-classes, lookup-method}
 use Rattle.names.specs.Names.{nameOf}
 use Rattle.supers.specs.ClassTable.{declaredAt, Supers}
 use Rattle.supers.proofs.ClassLaws.{none-class, supers-end}
-use Rattle.classes.specs.Growing.{some?, Declared, ClassTable}
-use Rattle.classes.specs.Method.{methodAt, MethodAs, Methods}
-use Rattle.classes.specs.declared.Method.the-variants.{Nothing}
+use Rattle.classes.specs.Growing.{Declared, ClassTable}
+use Rattle.classes.specs.Method.{Methods}
 use Rattle.classes.proofs.Grown.{and-false}
 use Rattle.classes.proofs.Looking.{looks-none}
 

@@ -1,6 +1,6 @@
 -- The class table with one more class: which classes are declared in it, and what their superclasses are.
 use mathlib.Core.Path.{_≡_, refl, sym, ap, _∙_}
-use mathlib.Core.Bool.{Bool, true, false, _&&_, true≢false, false≢true}
+use mathlib.Core.Bool.{Bool, true, false, _&&_, false≢true}
 use mathlib.Core.List.{List, [], _∷_}
 use Prim.Native.Nat.{ℕ, zero, suc, _+_, _*_, _-_, _<_, _≤_}
 use native.Mathlib.Decide.{decLt, ℕ-discrete}
@@ -8,8 +8,7 @@ use native.Mathlib.Omega.{arith}
 use lib.Dec.{ltb}
 use lib.ListN.{length, getD}
 use borrow.Author.Tests.{lt-ltb, le-ltb}
-use Rattle.meaning.specs.Base.{if}
-use Rattle.supers.specs.ClassTable.{declaredAt, superAt, withNext, supersF, supersFrom, supersOf}
+use Rattle.supers.specs.ClassTable.{declaredAt, superAt, supersF, supersFrom, supersOf}
 use Rattle.supers.proofs.ClassLaws.{none-class, none-count, one-place, supers-next, supers-end}
 use Rattle.classes.specs.Growing.{ClassTable}
 use Rattle.classes.specs.Adding.{PutClass}

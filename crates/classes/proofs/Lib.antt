@@ -5,3 +5,6 @@ pub mod AddLaws
 pub mod Accepting
 pub mod Looking
 pub mod Empty
+pub mod Owned
+pub mod Recording
+pub mod Recorded

@@ -9,14 +9,13 @@ use Rattle.meaning.specs.Errors.{missing-superclass}
 use Rattle.meaning.specs.Budget.{Out, done, refused}
 use Rattle.meaning.specs.Classes.{ClassEnv, ClassInfo, InstanceInfo, supers-known, with-class, add-class, with-instance, add-instance}
 use Rattle.names.specs.Names.{nameOf, Names}
-use Rattle.errors.specs.declared.Refusal.{Refusal}
 use Rattle.errors.specs.Refusals.{Refuses}
 use Rattle.pairs.specs.Pairs.{Stands}
 use Rattle.instances.specs.Accepted.{Instances}
 use Rattle.instances.specs.declared.Apart.{Apart}
 use Rattle.instances.specs.declared.Apart.the-variants.{All as Apart-All, Refused as Apart-Refused}
 use Rattle.supers.specs.ClassTable.{declaredAt, Supers}
-use Rattle.classes.specs.Growing.{Declared, ClassTable, Copied}
+use Rattle.classes.specs.Growing.{Declared, ClassTable}
 use Rattle.classes.specs.declared.Known.{Known}
 use Rattle.classes.specs.declared.Known.the-variants.{All, Missing}
 use Rattle.classes.specs.declared.Added.{Added}

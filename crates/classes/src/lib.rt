@@ -11,7 +11,7 @@ ghost use Rattle.ast.specs.Table.{tree};
 ghost use Rattle.instances.specs.Picks.{ReadyPick};
 ghost use Rattle.classes.specs.Growing.{Copied};
 ghost use Rattle.classes.specs.Adding.{Knows, Puts, AddsClass, GivesInstance};
-ghost use Rattle.classes.specs.Method.{LooksUp};
+ghost use Rattle.classes.specs.Method.{LooksUp, withMethod, Rowed, AddsMethods};
 
 // Whether superclasses are declared: all are, or this is the first that is not.
 pub enum Known {
@@ -131,4 +131,31 @@ pub fn lookup_method(methods: &[u64], m: usize) -> Method
         return Method::Nothing;
     }
     Method::Of(c - 1, methods[2 * m + 1] as usize)
+}
+
+// One signature of a class: the method of name m is the class's from now on, unless an earlier signature made it so.
+fn add_method(methods: &mut [u64], m: usize, c: usize, t: usize)
+    requires { ⌜ 2 * c + 1 < length (now methods) ⌝ }
+    requires { ⌜ 2 * m + 1 < length (now methods) ⌝ }
+    ensures { λ _. ⌜ now (methods .exit) ≡ withMethod (now (methods .entry)) m c t ⌝ }
+{
+    let of = c + 1;
+    if methods[2 * m] as usize == of {
+        return;
+    }
+    methods[2 * m] = of as u64;
+    methods[2 * m + 1] = t as u64;
+}
+
+// The signatures of a new class of name c, a method's name and a type's word each.
+pub fn add_methods(methods: &mut [u64], c: usize, sigs: &[u64])
+    requires { ⌜ Rowed (now methods) c (now sigs) ⌝ }
+    ensures { λ _. ⌜ AddsMethods (now (methods .entry)) (now (methods .exit)) c (now (sigs .entry)) ⌝ }
+{
+    let n = sigs.len() / 2;
+    let mut j: usize = 0;
+    while j < n {
+        add_method(methods, sigs[2 * j] as usize, c, sigs[2 * j + 1] as usize);
+        j += 1;
+    }
 }

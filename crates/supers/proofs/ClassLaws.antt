@@ -1,6 +1,6 @@
 -- Laws of the class table: what each way out of `super_at` says, and a class's superclasses one by one.
-use mathlib.Core.Path.{_≡_, refl, sym, _∙_}
-use mathlib.Core.Bool.{Bool, true, false, not, _&&_, true≢false, false≢true}
+use mathlib.Core.Path.{_≡_, refl, sym}
+use mathlib.Core.Bool.{Bool, true, false, not, true≢false, false≢true}
 use mathlib.Core.List.{List, [], _∷_}
 use Prim.Native.Nat.{ℕ, zero, suc, _+_, _*_, _-_, _/_, _<_, _≤_}
 use native.Mathlib.Decide.{decLt}
@@ -10,7 +10,7 @@ use lib.ListN.{length, getD}
 use borrow.Author.Tests.{lt-ltb, le-ltb}
 use Rattle.meaning.specs.Base.{if}
 use Rattle.pairs.specs.declared.Found.the-variants.{At, Nothing}
-use Rattle.supers.specs.ClassTable.{declaredAt, superAt, withNext, supersF, supersFrom}
+use Rattle.supers.specs.ClassTable.{declaredAt, superAt, supersF, supersFrom}
 
 -- Nothing, whatever a test says.
 either : (b : Bool) → if b Nothing Nothing ≡ Nothing
