@@ -13,7 +13,7 @@ past : (ix : List ℕ) (i : ℕ) → length ix ≤ i → 0 ≡ getD ix i 0
 past ix i h = sym (List·getD-eq-default ix 0 {n = i} h)
 
 returns : tie.Need-returns
-returns c = name-word _ _ 0 (past _ _ (omega arith))
+returns c = name-word _ _ 0 (past (c .before .args .index .now) (c .before .args .i) (omega arith))
 
 mul-result : tie.Need-mul-result
 mul-result c = search needs
