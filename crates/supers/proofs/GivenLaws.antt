@@ -98,7 +98,7 @@ fourth-class : (w : List ℕ) (l : ℕ) → fourthAt w l ≡ classAt w l
 unfolding fourthAt classAt
 fourth-class w l = refl
 
--- What `given_at` says of a list: r is what `cell_at` returned.
+-- What `listed_at` says of a list: r is what `cell_at` returned.
 module _ {w : List ℕ} {top l : ℕ} {r : Cell} (ns : List ℕ) (i : ℕ) (N : Node w top l) (e : r ≡ cellOf w l) where
   -- No givens.
   pub no-givens : (root : Root) → r ≡ Nil → givensOf ns w root i l ≡ []

@@ -1,16 +1,15 @@
 -- Laws of rows: what three words say, the rows one after the other, and that their binders stand where the table does.
 use mathlib.Core.Path.{_≡_, refl, ap, sym, _∙_}
-use mathlib.Core.Bool.{Bool, true, false}
 use mathlib.Core.List.{List, [], _∷_}
 use Prim.Native.Nat.{ℕ, zero, suc, _+_, _*_, _-_, _<_, _≤_}
 use native.Mathlib.Omega.{arith}
 use native.Mathlib.Decide.{ℕ-discrete}
 use native.Mathlib.Numerals.{add-one}
-use lib.ListN.{length, getD}
+use lib.ListN.{length}
 use Rattle.meaning.specs.Base.{if, eqb, yes?}
 use Rattle.meaning.specs.Ast.{dvar, pred, Binder}
 use Rattle.names.specs.Names.{first-fresh, nameOf}
-use Rattle.ast.specs.Table.{tree, Node, Kept}
+use Rattle.ast.specs.Table.{tree, Kept}
 use Rattle.ast.proofs.Laws.{kept-tree, kept-node}
 use Rattle.supers.specs.declared.rows.Row.{Row}
 use Rattle.supers.specs.declared.rows.Row.the-variants.{Pending, Replaced}

@@ -1,0 +1,3 @@
+pub mod RowSets
+pub mod Turns
+pub mod Loop
