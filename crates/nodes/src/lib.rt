@@ -1,4 +1,6 @@
 // The nodes and declarations of a session file: each is read from the place where it begins, to the place after it.
+pub mod decls;
+
 use errors::Refusal;
 use reader::Count;
 use reader::Field;
@@ -12,7 +14,7 @@ ghost use Rattle.meaning.specs.Ast as A;
 ghost use Rattle.meaning.specs.Reader as R;
 ghost use Rattle.meaning.specs.File as F;
 ghost use Rattle.nodes.specs.Known.{Any, Sized, Known, Gives};
-ghost use Rattle.nodes.specs.Rows.{things, manyOf, name-for, reserved-form, row-reader, class-body, instance-body};
+ghost use Rattle.nodes.specs.Rows.{things, manyOf, name-for, reserved-form, row-reader};
 
 // How many names, types and expressions stand before a place.
 pub struct Counts {
@@ -171,19 +173,6 @@ pub fn list(src: &[u8], index: &[u64], at: usize, n: Counts, k: Row) -> Place
     }
 }
 
-// Two lists, one after the other.
-fn lists(src: &[u8], index: &[u64], at: usize, n: Counts, a: Row, b: Row) -> Place
-    requires { ⌜ n .names ≤ 1024 ⌝ }
-    requires { ⌜ 2048 ≤ length (now index) ⌝ }
-    ensures { λ r. ⌜ Gives (Known (now (index .entry)) n) (now (src .entry)) (λ s. R.pair (R.list-of (row-reader a s)) (R.list-of (row-reader b s))) at r ⌝ }
-{
-    let p = list(src, index, at, n, a);
-    match p {
-        Place::Next(q) => list(src, index, q, n, b),
-        Place::Bad(e) => Place::Bad(e),
-    }
-}
-
 // A constructor's name and its arguments.
 fn constructor(src: &[u8], index: &[u64], at: usize, n: Counts) -> Place
     requires { ⌜ n .names ≤ 1024 ⌝ }
@@ -288,98 +277,6 @@ pub fn expr_node(src: &[u8], index: &[u64], at: usize, n: Counts) -> Place
             }
             if tag == 5 {
                 return binding(src, index, at + 1, n);
-            }
-            Place::Bad(Refusal::Format(at))
-        }
-    }
-}
-
-// A class's superclasses, signatures and defaults.
-fn class_body(src: &[u8], index: &[u64], at: usize, n: Counts) -> Place
-    requires { ⌜ n .names ≤ 1024 ⌝ }
-    requires { ⌜ 2048 ≤ length (now index) ⌝ }
-    ensures { λ r. ⌜ Gives (Known (now (index .entry)) n) (now (src .entry)) (λ s. class-body s) at r ⌝ }
-{
-    let p = list(src, index, at, n, Row::Super);
-    match p {
-        Place::Next(q) => lists(src, index, q, n, Row::Signature, Row::Method),
-        Place::Bad(e) => Place::Bad(e),
-    }
-}
-
-// A class's variable and all that follows it.
-fn class_rest(src: &[u8], index: &[u64], at: usize, n: Counts) -> Place
-    requires { ⌜ n .names ≤ 1024 ⌝ }
-    requires { ⌜ 2048 ≤ length (now index) ⌝ }
-    ensures { λ r. ⌜ Gives (Known (now (index .entry)) n) (now (src .entry)) (λ s. R.pair (F.variable (s .names)) (class-body s)) at r ⌝ }
-{
-    let p = name_for(src, index, at, n, Use::Variable);
-    match p {
-        Place::Next(q) => class_body(src, index, q, n),
-        Place::Bad(e) => Place::Bad(e),
-    }
-}
-
-// A class.
-fn class_entry(src: &[u8], index: &[u64], at: usize, n: Counts) -> Place
-    requires { ⌜ n .names ≤ 1024 ⌝ }
-    requires { ⌜ 2048 ≤ length (now index) ⌝ }
-    ensures { λ r. ⌜ Gives (Known (now (index .entry)) n) (now (src .entry)) (λ s. F.class-entry (s .names) (s .types) (s .exprs)) at r ⌝ }
-{
-    let p = one_of(src, at, n, Section::Names);
-    match p {
-        Place::Next(q) => class_rest(src, index, q, n),
-        Place::Bad(e) => Place::Bad(e),
-    }
-}
-
-// An instance's head and methods.
-fn instance_body(src: &[u8], index: &[u64], at: usize, n: Counts) -> Place
-    requires { ⌜ n .names ≤ 1024 ⌝ }
-    requires { ⌜ 2048 ≤ length (now index) ⌝ }
-    ensures { λ r. ⌜ Gives (Known (now (index .entry)) n) (now (src .entry)) (λ s. instance-body s) at r ⌝ }
-{
-    let p = two(src, at, n, Section::Names, Section::Types);
-    match p {
-        Place::Next(q) => list(src, index, q, n, Row::Method),
-        Place::Bad(e) => Place::Bad(e),
-    }
-}
-
-// An instance.
-fn instance_entry(src: &[u8], index: &[u64], at: usize, n: Counts) -> Place
-    requires { ⌜ n .names ≤ 1024 ⌝ }
-    requires { ⌜ 2048 ≤ length (now index) ⌝ }
-    ensures { λ r. ⌜ Gives (Known (now (index .entry)) n) (now (src .entry)) (λ s. F.instance-entry (s .names) (s .types) (s .exprs)) at r ⌝ }
-{
-    let p = list(src, index, at, n, Row::Context);
-    match p {
-        Place::Next(q) => instance_body(src, index, q, n),
-        Place::Bad(e) => Place::Bad(e),
-    }
-}
-
-// Declarations: 0 class; 1 instance; 2 let; 3 check.
-pub fn decl_entry(src: &[u8], index: &[u64], at: usize, n: Counts) -> Place
-    requires { ⌜ n .names ≤ 1024 ⌝ }
-    requires { ⌜ 2048 ≤ length (now index) ⌝ }
-    ensures { λ r. ⌜ Gives (Known (now (index .entry)) n) (now (src .entry)) (λ s. F.decl-entry (s .names) (s .types) (s .exprs)) at r ⌝ }
-{
-    let t = reader::byte(src, at);
-    match t {
-        Field::Cut => Place::Bad(Refusal::Format(at)),
-        Field::Is(tag) => {
-            if tag == 0 {
-                return class_entry(src, index, at + 1, n);
-            }
-            if tag == 1 {
-                return instance_entry(src, index, at + 1, n);
-            }
-            if tag == 2 {
-                return worded(src, index, at + 1, n, Section::Exprs);
-            }
-            if tag == 3 {
-                return one_of(src, at + 1, n, Section::Exprs);
             }
             Place::Bad(Refusal::Format(at))
         }

@@ -70,7 +70,7 @@ fn node(src: &[u8], index: &[u64], at: usize, n: Counts, k: Part, i: usize) -> P
                 exprs: i,
             },
         ),
-        Part::Decls => nodes::decl_entry(src, index, at, n),
+        Part::Decls => nodes::decls::decl_entry(src, index, at, n),
     }
 }
 

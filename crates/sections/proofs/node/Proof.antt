@@ -5,7 +5,7 @@ use Rattle.sections.proofs.node.Statement.{statement}
 use Rattle.sections.proofs.node.Tie as tie
 use Rattle.sections.proofs.node.Reads as reads
 use Rattle.sections.proofs.node.Lts as lts
-use Rattle.nodes.proofs.decl_entry.Reads as decl-entry-reads
+use Rattle.nodes.proofs.decls.decl_entry.Reads as decl-entry-reads
 use Rattle.nodes.proofs.expr_node.Reads as expr-node-reads
 use Rattle.nodes.proofs.type_node.Reads as type-node-reads
 

@@ -1,10 +1,10 @@
 -- `nodes::instance_body` meets its contract. Assumes nothing.
 use Rattle.nodes.proofs.Numbers.{pair-on, pair-bad, pred-pair, sized}
 use borrow.Author.Needs.{needs}
-use Rattle.nodes.proofs.instance_body.Statement.{statement}
-use Rattle.nodes.proofs.instance_body.Tie as tie
-use Rattle.nodes.proofs.instance_body.Reads as reads
-use Rattle.nodes.proofs.instance_body.Lts as lts
+use Rattle.nodes.proofs.decls.instance_body.Statement.{statement}
+use Rattle.nodes.proofs.decls.instance_body.Tie as tie
+use Rattle.nodes.proofs.decls.instance_body.Reads as reads
+use Rattle.nodes.proofs.decls.instance_body.Lts as lts
 use Rattle.nodes.proofs.list.Reads as list-reads
 use Rattle.nodes.proofs.two.Reads as two-reads
 

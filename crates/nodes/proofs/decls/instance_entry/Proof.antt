@@ -2,11 +2,11 @@
 use Rattle.nodes.proofs.Numbers.{pair-on, pair-bad}
 use Rattle.nodes.proofs.Bodies.{instance-parts}
 use borrow.Author.Needs.{needs}
-use Rattle.nodes.proofs.instance_entry.Statement.{statement}
-use Rattle.nodes.proofs.instance_entry.Tie as tie
-use Rattle.nodes.proofs.instance_entry.Reads as reads
-use Rattle.nodes.proofs.instance_entry.Lts as lts
-use Rattle.nodes.proofs.instance_body.Reads as instance-body-reads
+use Rattle.nodes.proofs.decls.instance_entry.Statement.{statement}
+use Rattle.nodes.proofs.decls.instance_entry.Tie as tie
+use Rattle.nodes.proofs.decls.instance_entry.Reads as reads
+use Rattle.nodes.proofs.decls.instance_entry.Lts as lts
+use Rattle.nodes.proofs.decls.instance_body.Reads as instance-body-reads
 use Rattle.nodes.proofs.list.Reads as list-reads
 
 -- src/lib.rt:340:9

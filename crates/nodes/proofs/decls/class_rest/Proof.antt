@@ -1,11 +1,11 @@
 -- `nodes::class_rest` meets its contract. Assumes nothing.
 use Rattle.nodes.proofs.Numbers.{pair-on, pair-bad}
 use borrow.Author.Needs.{needs}
-use Rattle.nodes.proofs.class_rest.Statement.{statement}
-use Rattle.nodes.proofs.class_rest.Tie as tie
-use Rattle.nodes.proofs.class_rest.Reads as reads
-use Rattle.nodes.proofs.class_rest.Lts as lts
-use Rattle.nodes.proofs.class_body.Reads as class-body-reads
+use Rattle.nodes.proofs.decls.class_rest.Statement.{statement}
+use Rattle.nodes.proofs.decls.class_rest.Tie as tie
+use Rattle.nodes.proofs.decls.class_rest.Reads as reads
+use Rattle.nodes.proofs.decls.class_rest.Lts as lts
+use Rattle.nodes.proofs.decls.class_body.Reads as class-body-reads
 use Rattle.nodes.proofs.name_for.Reads as name-for-reads
 
 -- src/lib.rt:304:9

@@ -1,12 +1,12 @@
 -- `nodes::class_body` meets its contract. Assumes nothing.
 use Rattle.nodes.proofs.Numbers.{pair-on, pair-bad}
 use borrow.Author.Needs.{needs}
-use Rattle.nodes.proofs.class_body.Statement.{statement}
-use Rattle.nodes.proofs.class_body.Tie as tie
-use Rattle.nodes.proofs.class_body.Reads as reads
-use Rattle.nodes.proofs.class_body.Lts as lts
+use Rattle.nodes.proofs.decls.class_body.Statement.{statement}
+use Rattle.nodes.proofs.decls.class_body.Tie as tie
+use Rattle.nodes.proofs.decls.class_body.Reads as reads
+use Rattle.nodes.proofs.decls.class_body.Lts as lts
 use Rattle.nodes.proofs.list.Reads as list-reads
-use Rattle.nodes.proofs.lists.Reads as lists-reads
+use Rattle.nodes.proofs.decls.lists.Reads as lists-reads
 
 -- src/lib.rt:292:9
 list-requires : tie.Need-list-requires

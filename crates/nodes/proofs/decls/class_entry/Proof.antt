@@ -2,11 +2,11 @@
 use Rattle.nodes.proofs.Numbers.{sized}
 use Rattle.nodes.proofs.Bodies.{class-on, class-bad}
 use borrow.Author.Needs.{needs}
-use Rattle.nodes.proofs.class_entry.Statement.{statement}
-use Rattle.nodes.proofs.class_entry.Tie as tie
-use Rattle.nodes.proofs.class_entry.Reads as reads
-use Rattle.nodes.proofs.class_entry.Lts as lts
-use Rattle.nodes.proofs.class_rest.Reads as class-rest-reads
+use Rattle.nodes.proofs.decls.class_entry.Statement.{statement}
+use Rattle.nodes.proofs.decls.class_entry.Tie as tie
+use Rattle.nodes.proofs.decls.class_entry.Reads as reads
+use Rattle.nodes.proofs.decls.class_entry.Lts as lts
+use Rattle.nodes.proofs.decls.class_rest.Reads as class-rest-reads
 use Rattle.nodes.proofs.one_of.Reads as one-of-reads
 
 -- src/lib.rt:316:9

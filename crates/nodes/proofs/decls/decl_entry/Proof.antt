@@ -3,12 +3,12 @@ use native.Mathlib.Omega.{arith}
 use Rattle.nodes.proofs.Numbers.{sized}
 use Rattle.nodes.proofs.Tags.{decl-class, decl-instance, decl-let, decl-check, decl-unknown, decl-cut}
 use borrow.Author.Needs.{needs}
-use Rattle.nodes.proofs.decl_entry.Statement.{statement}
-use Rattle.nodes.proofs.decl_entry.Tie as tie
-use Rattle.nodes.proofs.decl_entry.Reads as reads
-use Rattle.nodes.proofs.decl_entry.Lts as lts
-use Rattle.nodes.proofs.class_entry.Reads as class-entry-reads
-use Rattle.nodes.proofs.instance_entry.Reads as instance-entry-reads
+use Rattle.nodes.proofs.decls.decl_entry.Statement.{statement}
+use Rattle.nodes.proofs.decls.decl_entry.Tie as tie
+use Rattle.nodes.proofs.decls.decl_entry.Reads as reads
+use Rattle.nodes.proofs.decls.decl_entry.Lts as lts
+use Rattle.nodes.proofs.decls.class_entry.Reads as class-entry-reads
+use Rattle.nodes.proofs.decls.instance_entry.Reads as instance-entry-reads
 use Rattle.nodes.proofs.one_of.Reads as one-of-reads
 use Rattle.nodes.proofs.worded.Reads as worded-reads
 use Rattle.reader.proofs.byte.Reads as byte-reads

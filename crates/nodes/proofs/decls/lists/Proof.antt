@@ -1,10 +1,10 @@
 -- `nodes::lists` meets its contract. Assumes nothing.
 use Rattle.nodes.proofs.Numbers.{pair-on, pair-bad}
 use borrow.Author.Needs.{needs}
-use Rattle.nodes.proofs.lists.Statement.{statement}
-use Rattle.nodes.proofs.lists.Tie as tie
-use Rattle.nodes.proofs.lists.Reads as reads
-use Rattle.nodes.proofs.lists.Lts as lts
+use Rattle.nodes.proofs.decls.lists.Statement.{statement}
+use Rattle.nodes.proofs.decls.lists.Tie as tie
+use Rattle.nodes.proofs.decls.lists.Reads as reads
+use Rattle.nodes.proofs.decls.lists.Lts as lts
 use Rattle.nodes.proofs.list.Reads as list-reads
 
 -- src/lib.rt:174:9
