@@ -15,7 +15,8 @@ use Rattle.names.specs.Names.{row}
 use Rattle.reader.specs.declared.Place.{Place}
 use Rattle.reader.specs.declared.Place.the-variants.{Next, Bad}
 use Rattle.rows.specs.Rows.{namesFrom}
-use Rattle.nametable.specs.Entries.{Form, Took, Taken}
+use Rattle.spelling.specs.Forms.{FormWord}
+use Rattle.nametable.specs.Entries.{Took, Taken}
 use Rattle.nametable.specs.Tables.{Holds, Apart, ReadAll}
 use Rattle.rows.proofs.Listed.{names-snoc, names-stand}
 
@@ -82,8 +83,8 @@ more-holds {bytes} {ns} {ix} {ns′} {ix′} {at} {i} {p} g t = record {
     apart j k l m (yes e) q = let h : j < i = omega arith in t .new j h (sym (stays j h) ∙ q ∙ ap (λ (k : ℕ). row ns′ (35 + k)) e)
     apart j k l m (no e) q = let h : j < i = omega arith in let h′ : k < i = omega arith in g .apart j k l h′ (sym (stays j h) ∙ q ∙ stays k h′)
 
-    forms : (j : ℕ) → j < i + 1 → Dec (j ≡ i) → Form (name (row ns′ (35 + j))) (getD ix′ (1_024 + j) 0)
-    forms j l (yes e) = subst (λ (k : ℕ). Form (name (row ns′ (35 + k))) (getD ix′ (1_024 + k) 0)) (sym e) (t .form)
+    forms : (j : ℕ) → j < i + 1 → Dec (j ≡ i) → FormWord (name (row ns′ (35 + j))) (getD ix′ (1_024 + j) 0)
+    forms j l (yes e) = subst (λ (k : ℕ). FormWord (name (row ns′ (35 + k))) (getD ix′ (1_024 + k) 0)) (sym e) (t .form)
     forms j l (no e) = let h : j < i = omega arith in rw (stays j h, t .stands (1_024 + j) (λ e. omega arith)) (g .forms j h)
 
 -- The rows and words that stand still do.

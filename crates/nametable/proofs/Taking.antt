@@ -31,7 +31,8 @@ use Rattle.spelling.proofs.Texts.{text-length}
 use Rattle.nametable.specs.declared.Spot.{Spot}
 use Rattle.nametable.specs.declared.Spot.the-variants.{Text, Wrong}
 use Rattle.rows.specs.Rows.{rowSet, namesFrom, among}
-use Rattle.nametable.specs.Entries.{TextAt, Spotted, Form, Coded, codeOf, Entered, Taken}
+use Rattle.spelling.specs.Forms.{FormWord}
+use Rattle.nametable.specs.Entries.{TextAt, Spotted, Coded, codeOf, Entered, Taken}
 use Rattle.rows.proofs.Cells.{row-same, row-other}
 use Rattle.rows.proofs.Listed.{none-same}
 
@@ -40,11 +41,11 @@ pub entered : (ns ix ns′ : List ℕ) (i w : ℕ) (k : Key) (f : S.Form) → ns
 entered ns ix ns′ i w k f e c = record { names = e; index = ap (λ (v : ℕ). set ix (1_024 + i) v) (c .is) }
 
 -- A form's word says what the form says.
-form-word : (x : Name) (f : S.Form) → FormIs x f → Form x (codeOf f)
+form-word : (x : Name) (f : S.Form) → FormIs x f → FormWord x (codeOf f)
 unfolding eqb ℕ-discrete
-form-word x Free i = record { variable = i .variable; word = i .word; small = omega arith }
-form-word x Variable i = record { variable = i .variable; word = i .word; small = omega arith }
-form-word x Word i = record { variable = i .variable; word = i .word; small = omega arith }
+form-word x Free i = record { variable = i .variable; word = i .word }
+form-word x Variable i = record { variable = i .variable; word = i .word }
+form-word x Word i = record { variable = i .variable; word = i .word }
 
 -- The first byte of a text of letters is not zero.
 first-byte : (B c p : ℕ) → 0 < c → B ≤ c * B + p
@@ -94,7 +95,7 @@ took {bytes} {ns} {ix} {ns′} {ix′} {at} {i} {len} {k} {f} {r} u v t p e h g 
     new = λ j l q. none-same (bytesOf k) ns 35 i j (sym e ∙ h) l (q ∙ there ∙ sym (p .bytes));
     full = rw there (full-text (text bytes (at + 1) len) (rw (text-length bytes (at + 1) len) (t .some)) (t .letters));
     others = λ s n. ap (λ (xs : List ℕ). row xs s) (w .names) ∙ row-other ns (35 + i) s k n;
-    form = rw (w .index, getD-set-same ix (1_024 + i) (codeOf f) 0 v) (subst (λ x. Form x (codeOf f)) (ap name (sym there)) (form-word _ f g));
+    form = rw (w .index, getD-set-same ix (1_024 + i) (codeOf f) 0 v) (subst (λ x. FormWord x (codeOf f)) (ap name (sym there)) (form-word _ f g));
     stands = λ j n. ap (λ (xs : List ℕ). getD xs j 0) (w .index) ∙ getD-set-other ix (1_024 + i) j (codeOf f) 0 n;
   };
 }

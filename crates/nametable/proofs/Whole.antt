@@ -17,7 +17,7 @@ use Rattle.reader.specs.declared.Place.the-variants.{Next, Bad}
 use Rattle.errors.specs.declared.Refusal as E
 use Rattle.rows.specs.BuiltIns.{built-ins}
 use Rattle.rows.specs.Rows.{namesFrom, Filled, Words}
-use Rattle.nametable.specs.Entries.{Form}
+use Rattle.spelling.specs.Forms.{FormWord}
 use Rattle.nametable.specs.Tables.{ReadUpTo, ReadAll, Number, own, built, AllBound, NameKnown, SectionRead, NamesRead}
 use Rattle.rows.proofs.Listed.{Nth, names-nth, names-count}
 use Rattle.rows.proofs.Start.{built-full, built-apart, built-below}
@@ -120,7 +120,7 @@ module _ {bytes ns₀ ix₀ ns₁ ix₁ ns₂ ix₂ : List ℕ} {at n p : ℕ} (
   found i x m = record {
     number = small (end .numbers i (m .below));
     named = row-name ns₂ (getD ix₂ i 0) (small (end .numbers i (m .below))) long ∙ ap name (there (end .numbers i (m .below))) ∙ m .is;
-    form = rw (end .stands (1_024 + i) (omega arith)) (subst (λ y. Form y (getD ix₁ (1_024 + i) 0)) (m .is) (got .holds .forms i (m .below)));
+    form = rw (end .stands (1_024 + i) (omega arith)) (subst (λ y. FormWord y (getD ix₁ (1_024 + i) 0)) (m .is) (got .holds .forms i (m .below)));
   }
     where
       small : Number ns₁ ns₂ (35 + i) (getD ix₂ i 0) → getD ix₂ i 0 < 1_059

@@ -14,6 +14,7 @@ use Rattle.meaning.specs.File.{name-entry}
 use Rattle.errors.specs.Refusals.{refusalOf}
 use Rattle.names.specs.Names.{row}
 use Rattle.names.specs.declared.Key.{Key}
+use Rattle.spelling.specs.Forms.{FormWord}
 use Rattle.spelling.specs.declared.Form as S
 use Rattle.spelling.specs.declared.Form.the-variants.{Free, Variable, Word}
 use Rattle.reader.specs.Bytes.{text}
@@ -40,12 +41,6 @@ SpotAs bytes at (Wrong q) = (earlier : List Name) → name-entry earlier at (fro
 pub record Spotted (bytes : List ℕ) (at : ℕ) (r : Spot) : Type 0 where
   pub is : SpotAs bytes at r
 
--- A name's form as a word: 1 where the checker makes such type variables, 2 where it makes such names, else 0.
-pub record Form (x : Name) (w : ℕ) : Type 0 where
-  pub variable : made-variable x ≡ eqb w 1
-  pub word : made-name x ≡ eqb w 2
-  pub small : w < 3
-
 -- The word of a form.
 abbrev pub codeOf : S.Form → ℕ
 codeOf Free = 0
@@ -67,7 +62,7 @@ pub record Took (bytes ns ix ns′ ix′ : List ℕ) (at i p : ℕ) : Type 0 whe
   pub new : (j : ℕ) → j < i → row ns (35 + j) ≡ row ns′ (35 + i) → ⊥
   pub full : 2 ^ 248 ≤ row ns′ (35 + i)
   pub others : (r : ℕ) → (r ≡ 35 + i → ⊥) → row ns′ r ≡ row ns r
-  pub form : Form (name (row ns′ (35 + i))) (getD ix′ (1_024 + i) 0)
+  pub form : FormWord (name (row ns′ (35 + i))) (getD ix′ (1_024 + i) 0)
   pub stands : (k : ℕ) → (k ≡ 1_024 + i → ⊥) → getD ix′ k 0 ≡ getD ix k 0
 
 abbrev pub TakenAs : (bytes ns ix ns′ ix′ : List ℕ) (at i : ℕ) → Place → Type 0

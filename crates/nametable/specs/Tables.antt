@@ -14,13 +14,13 @@ use Rattle.reader.specs.declared.Place.{Place}
 use Rattle.reader.specs.declared.Place.the-variants.{Next, Bad}
 use Rattle.rows.specs.BuiltIns.{BuiltIns}
 use Rattle.rows.specs.Rows.{namesFrom}
-use Rattle.nametable.specs.Entries.{Form}
+use Rattle.spelling.specs.Forms.{FormWord}
 
 -- A table that holds m names of a file from row 35 on, no two equal, each with its form in the index.
 pub record Holds (ns ix : List ℕ) (m : ℕ) : Type 0 where
   pub full : (j : ℕ) → j < m → 2 ^ 248 ≤ row ns (35 + j)
   pub apart : (j k : ℕ) → j < k → k < m → row ns (35 + j) ≡ row ns (35 + k) → ⊥
-  pub forms : (j : ℕ) → j < m → Form (name (row ns (35 + j))) (getD ix (1_024 + j) 0)
+  pub forms : (j : ℕ) → j < m → FormWord (name (row ns (35 + j))) (getD ix (1_024 + j) 0)
 
 -- All but rows 35 to 34 + m stand, and all of the index from word 2,048 on.
 pub record Apart (ns ix ns′ ix′ : List ℕ) (m : ℕ) : Type 0 where
@@ -65,7 +65,7 @@ pub record AllBound (ns ix ns′ ix′ : List ℕ) (n : ℕ) : Type 0 where
 pub record NameKnown (ns ix : List ℕ) (i : ℕ) (x : Name) : Type 0 where
   pub number : getD ix i 0 < 1_059
   pub named : nameOf ns (getD ix i 0) ≡ x
-  pub form : Form x (getD ix (1_024 + i) 0)
+  pub form : FormWord x (getD ix (1_024 + i) 0)
 
 -- The names section was read up to the place p: the definition reads `list`, and table and index say the same of it.
 pub record SectionRead (bytes ix ns′ ix′ : List ℕ) (at n p : ℕ) : Type 0 where

@@ -13,6 +13,7 @@ use Rattle.meaning.specs.Reader.{Read, got, bad, Reader, onward, from, item, un
 use Rattle.meaning.specs.File.{variable, word, pred-entry}
 use Rattle.theorems.proofs.Tests.{eqb-of, no?-of}
 use Rattle.errors.specs.declared.Refusal.the-variants.{Format, Reserved}
+use Rattle.spelling.specs.Forms.{FormWord}
 use Rattle.reader.specs.declared.Place.{Place}
 use Rattle.reader.specs.declared.Place.the-variants.{Next, Bad}
 use Rattle.reader.specs.declared.Picked.the-variants.{At, Nothing}
@@ -24,7 +25,7 @@ use Rattle.nodes.specs.declared.Section.{Section}
 use Rattle.nodes.specs.declared.Section.the-variants.{Names, Types, Exprs}
 use Rattle.nodes.specs.declared.Use.{Use}
 use Rattle.nodes.specs.declared.Use.the-variants.{Variable, Word}
-use Rattle.nodes.specs.Known.{Before, Sized, Form, Forms, Known, Gives}
+use Rattle.nodes.specs.Known.{Before, Sized, Forms, Known, Gives}
 use Rattle.nodes.specs.Rows.{Thing, things, manyOf, name-for, reserved-form}
 use native.Mathlib.Decide.{ℕ-discrete}
 
@@ -56,7 +57,7 @@ unfolding variable word made
 for-use Variable s = refl
 for-use Word s = refl
 
-made-by : (u : Use) (x : Name) (f : ℕ) → Form x f → made u x ≡ eqb f (reserved-form u)
+made-by : (u : Use) (x : Name) (f : ℕ) → FormWord x f → made u x ≡ eqb f (reserved-form u)
 unfolding made
 made-by Variable x f h = h .variable
 made-by Word x f h = h .word

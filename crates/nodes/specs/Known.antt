@@ -4,10 +4,10 @@ use mathlib.Core.List.{List}
 use mathlib.Core.Option.{some}
 use Prim.Native.Nat.{ℕ, _+_, _≤_}
 use lib.ListN.{getD}
-use Rattle.meaning.specs.Base.{eqb, count, nth}
+use Rattle.meaning.specs.Base.{count, nth}
 use Rattle.meaning.specs.Ast.{Name, Ty, Expr}
-use Rattle.meaning.specs.Reserved.{made-variable, made-name}
 use Rattle.meaning.specs.Reader.{Reader, from}
+use Rattle.spelling.specs.Forms.{FormWord}
 use Rattle.reader.specs.declared.Place.{Place}
 use Rattle.reader.specs.Verdicts.{Verdict}
 use Rattle.nodes.specs.declared.Counts.{Counts}
@@ -28,14 +28,9 @@ pub record Sized (n : Counts) (s : Before) : Type 0 where
   pub types : count (s .types) ≡ n .types
   pub exprs : count (s .exprs) ≡ n .exprs
 
--- A name's form: 1 where the checker makes such type variables, 2 where it makes such names, else another number.
-pub record Form (x : Name) (f : ℕ) : Type 0 where
-  pub variable : made-variable x ≡ eqb f 1
-  pub word : made-name x ≡ eqb f 2
-
 -- The index has the form of the i-th name in its word 1,024 + i.
 pub record Forms (ix : List ℕ) (ns : List Name) : Type 0 where
-  pub at : (i : ℕ) (x : Name) → nth ns i ≡ some x → Form x (getD ix (1_024 + i) 0)
+  pub at : (i : ℕ) (x : Name) → nth ns i ≡ some x → FormWord x (getD ix (1_024 + i) 0)
 
 -- How many there are of each, and the forms of the names.
 pub record Known (ix : List ℕ) (n : Counts) (s : Before) : Type 0 where

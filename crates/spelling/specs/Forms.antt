@@ -4,6 +4,7 @@ use mathlib.Core.Bool.{Bool, true, false}
 use mathlib.Core.List.{List}
 use Prim.Native.Nat.{ℕ, _<_}
 use lib.ListN.{getD}
+use Rattle.meaning.specs.Base.{eqb}
 use Rattle.meaning.specs.Text.{packed}
 use Rattle.meaning.specs.Ast.{Name}
 use Rattle.meaning.specs.Reserved.{made-variable, made-name}
@@ -38,3 +39,9 @@ like-word Word = true
 pub record FormIs (x : Name) (f : Form) : Type 0 where
   pub variable : made-variable x ≡ like-variable f
   pub word : made-name x ≡ like-word f
+
+-- A name's form as a word of the index: 1 where the checker makes such type variables, 2 where it makes such names, else
+-- another number.
+pub record FormWord (x : Name) (w : ℕ) : Type 0 where
+  pub variable : made-variable x ≡ eqb w 1
+  pub word : made-name x ≡ eqb w 2
