@@ -1,4 +1,2 @@
 -- Laws that the proofs of several functions use.
-pub mod Never
-pub mod Apart
-pub mod Falling
+pub mod Ready

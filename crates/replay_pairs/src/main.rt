@@ -29,19 +29,19 @@
 // were compared with the Rust to which a step meter was added, answers and steps, and the 508 that meet neither 6 nor 7
 // with the unchanged Rust. Where several variables conflict in a match, the Rust names one by the order of its hash map;
 // there the recorded answer is one that it gives.
-mod input;
-mod nodes;
-mod ready;
-mod rows;
 mod say;
 
 use apply::Applied;
+use cases::input;
+use cases::nodes;
+use cases::ready;
+use cases::rows;
 use libc::STDIN_FILENO;
 ghost use mathlib.Core.Path.{_≡_};
 ghost use mathlib.Core.List.{_++_};
 ghost use lib.ListN.{length};
 ghost use Rattle.names.specs.Names.{Names};
-ghost use Rattle.replay_pairs.specs.Tested.{Fits};
+ghost use Rattle.cases.specs.Tested.{Fits};
 
 // Unifies or matches two types, with 256 levels, and all words for the stack.
 fn run(
@@ -82,7 +82,7 @@ fn solve(
 {
     let r = run(base, work, names, op, top, left, s, t);
     say::answer(base, work, names, r);
-    say::text(b"\n");
+    cases::say::text(b"\n");
 }
 
 // Answers a case, if it is one.
@@ -103,7 +103,7 @@ fn answer(
         solve(base, work, names, op, top, left, s, t);
         return;
     }
-    say::text(b"no case\n");
+    cases::say::text(b"no case\n");
 }
 
 // Reads the nodes and the two types of a case at a place, and answers it; the place behind it.

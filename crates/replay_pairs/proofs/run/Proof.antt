@@ -2,7 +2,7 @@
 use native.Mathlib.Omega.{arith}
 use lib.ListN.{length-append}
 use borrow.Author.Needs.{needs}
-use Rattle.replay_pairs.proofs.Falling.{is-ready}
+use Rattle.replay_pairs.proofs.Ready.{is-ready}
 use Rattle.replay_pairs.proofs.run.Statement.{statement}
 use Rattle.replay_pairs.proofs.run.Tie as tie
 
