@@ -1,6 +1,6 @@
 -- The loop of `reduce`: what the rows that are left give, from what the rows before them became.
-use mathlib.Core.Path.{_≡_, refl, ap, sym, _∙_}
-use mathlib.Core.List.{List, [], _∷_, map}
+use mathlib.Core.Path.{_≡_, refl, ap, _∙_}
+use mathlib.Core.List.{List}
 use mathlib.Core.Option.{Option}
 use Prim.Native.Nat.{ℕ, zero, suc, _+_, _*_, _<_, _≤_}
 use native.Mathlib.Omega.{arith}
@@ -8,7 +8,7 @@ use native.Mathlib.Decide.{ℕ-discrete}
 use native.Mathlib.Numerals.{add-one}
 use lib.ListN.{length, getD}
 use Rattle.meaning.specs.Ast.{pred, Pred, Core, Binder}
-use Rattle.meaning.specs.Budget.{done, after}
+use Rattle.meaning.specs.Budget.{after}
 use Rattle.meaning.specs.Classes.{ClassEnv, Given}
 use Rattle.meaning.specs.Generalize.{preds-of}
 use Rattle.meaning.specs.Reduce.{Discharged, discharge, reduce-from, reduce}

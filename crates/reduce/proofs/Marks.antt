@@ -21,7 +21,7 @@ use Rattle.supers.specs.declared.rows.Row.the-variants.{Pending, Replaced}
 use Rattle.supers.specs.declared.Searched.{Searched}
 use Rattle.supers.specs.declared.Searched.the-variants.{Found, Nothing, Refused}
 use Rattle.supers.proofs.RowLaws.{row-replaced}
-use Rattle.resolve.specs.Resolves.{Declared, ReadyResolve, Makes}
+use Rattle.resolve.specs.Resolves.{Declared, ReadyResolve}
 use Rattle.reduce.specs.Reduces.{marked, ReadyReduce, GivesOne, rowOut, GivesRow}
 use Rattle.reduce.specs.declared.Reduced.the-variants.{Done, Refused as Reduced-Refused}
 

@@ -2,12 +2,11 @@
 use mathlib.Core.Path.{_≡_, refl, sym, _∙_}
 use mathlib.Core.Bool.{Bool, true, false}
 use mathlib.Core.List.{List}
-use mathlib.Core.Option.{Option, some}
-use Prim.Native.Nat.{ℕ, _+_, _*_, _-_, _≤_}
+use mathlib.Core.Option.{Option}
+use Prim.Native.Nat.{ℕ, _+_, _*_, _-_}
 use native.Mathlib.Omega.{arith}
-use Rattle.meaning.specs.Base.{if}
 use Rattle.meaning.specs.Ast.{pred, Pred, Core}
-use Rattle.meaning.specs.Budget.{Out, done, after, _>>=_, pure}
+use Rattle.meaning.specs.Budget.{Out, after}
 use Rattle.meaning.specs.Classes.{ClassEnv, Given, resolve, resolve-from-givens}
 use Rattle.meaning.specs.Reduce.{is-head-normal, reduce-one}
 use Rattle.names.specs.Names.{nameOf}

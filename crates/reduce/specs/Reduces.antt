@@ -18,7 +18,7 @@ use Rattle.pairs.specs.Pairs.{Stands}
 use Rattle.instances.specs.Accepted.{Heads}
 use Rattle.cores.specs.Terms.{core}
 use Rattle.supers.specs.Rows.{mark, rowAt, bindersIn, TypeIn}
-use Rattle.supers.specs.Givens.{Few, givensOf}
+use Rattle.supers.specs.Givens.{Few}
 use Rattle.supers.specs.declared.Root.{Root}
 use Rattle.supers.specs.declared.rows.Row.{Row}
 use Rattle.supers.specs.declared.rows.Row.the-variants.{Pending, Replaced}

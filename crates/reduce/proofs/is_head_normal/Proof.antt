@@ -3,8 +3,6 @@ use Rattle.reduce.proofs.Ones.{normal-var, normal-con, normal-arrow}
 use borrow.Author.Needs.{needs}
 use Rattle.reduce.proofs.is_head_normal.Statement.{statement}
 use Rattle.reduce.proofs.is_head_normal.Tie as tie
-use Rattle.reduce.proofs.is_head_normal.Reads as reads
-use Rattle.reduce.proofs.is_head_normal.Lts as lts
 
 shape-at-requires : tie.Need-shape-at-requires
 shape-at-requires c κs = search needs

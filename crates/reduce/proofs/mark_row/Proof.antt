@@ -6,8 +6,6 @@ use Rattle.reduce.specs.Reduces.{marked}
 use borrow.Author.Needs.{needs}
 use Rattle.reduce.proofs.mark_row.Statement.{statement}
 use Rattle.reduce.proofs.mark_row.Tie as tie
-use Rattle.reduce.proofs.mark_row.Reads as reads
-use Rattle.reduce.proofs.mark_row.Lts as lts
 
 mul-i : tie.Need-mul-i
 mul-i c = search needs

@@ -3,8 +3,6 @@ use Rattle.reduce.proofs.Ones.{must-found, must-refused}
 use borrow.Author.Needs.{needs}
 use Rattle.reduce.proofs.must_resolve.Statement.{statement}
 use Rattle.reduce.proofs.must_resolve.Tie as tie
-use Rattle.reduce.proofs.must_resolve.Reads as reads
-use Rattle.reduce.proofs.must_resolve.Lts as lts
 
 resolve-requires : tie.Need-resolve-requires
 resolve-requires c κs = search needs

@@ -3,8 +3,6 @@ use Rattle.reduce.proofs.Ones.{one-var, one-other}
 use borrow.Author.Needs.{needs}
 use Rattle.reduce.proofs.reduce_one.Statement.{statement}
 use Rattle.reduce.proofs.reduce_one.Tie as tie
-use Rattle.reduce.proofs.reduce_one.Reads as reads
-use Rattle.reduce.proofs.reduce_one.Lts as lts
 
 is-head-normal-requires : tie.Need-is-head-normal-requires
 is-head-normal-requires c κs = search needs

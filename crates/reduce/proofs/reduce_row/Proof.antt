@@ -4,8 +4,6 @@ use Rattle.reduce.proofs.Marks.{row-was, row-ready, row-found, row-stay
 use borrow.Author.Needs.{needs}
 use Rattle.reduce.proofs.reduce_row.Statement.{statement}
 use Rattle.reduce.proofs.reduce_row.Tie as tie
-use Rattle.reduce.proofs.reduce_row.Reads as reads
-use Rattle.reduce.proofs.reduce_row.Lts as lts
 
 row-at-requires : tie.Need-row-at-requires
 row-at-requires c κs = search needs
