@@ -1,4 +1,4 @@
--- What the program tests of its input before it unifies or matches.
+-- What the programs test of the names and the types of a case.
 use mathlib.Core.Path.{_≡_}
 use mathlib.Core.List.{List}
 use Prim.Native.Nat.{ℕ, _+_, _*_, _<_, _≤_}

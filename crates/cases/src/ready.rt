@@ -1,4 +1,4 @@
-// What unification and matching ask of the words, tested.
+// What every case asks of the words, tested: a table, two words of it, and room for the steps.
 use ast::Cell;
 use ast::Shape;
 ghost use mathlib.Core.Path.{_≡_};

@@ -1,17 +1,28 @@
 // Replays recorded cases of resolution and of the test of overlap: reads them from standard input, hands each to
 // `resolve::resolve` with depth 256 or to `instances::none_overlaps`, and writes a line for each.
 //
-// The input. Numbers are unsigned, the lowest byte first. First the names, as `replay_pairs` has them. Then cases up to the
-// end: 0 to resolve a goal or 1 to test a new head (1 byte); the budget (4); how many nodes (2) and the nodes, as
+// The input. Numbers are unsigned, the lowest byte first. First the names, as `replay_pairs` has them. Then cases up to
+// the end: 0 to resolve a goal or 1 to test a new head (1 byte); the budget (4); how many nodes (2) and the nodes, as
 // `replay_pairs` has them; how many classes (2), and for each the number of its name (2), how many superclasses (1) and
-// their names (2 each); how many instances (1), and for each a list of predicates, its head and then its context; the class
-// of a head (2) and a list of predicates, which is the context given; the class (2) and the node (2) of the goal or of the
-// new head. A list of predicates is how many (1), and for each its class (2) and its node (2).
-// Where a node names one of no smaller number, an instance has no head, the context given has more than 64 predicates, or
-// the words have no room for the budget, the line is `no case`. The words keep what the case before left in them.
+// their names (2 each); how many instances (1), and for each a list of predicates, its head and then its context; the
+// class of a head (2) and a list of predicates, which is the context given; the class (2) and the node (2) of the goal or
+// of the new head. A list of predicates is how many (1), and for each its class (2) and its node (2). A number of no
+// earlier node is taken for the variable of name 0. Where an instance has no head, the context given has more than 64
+// predicates, or the words have no room for the budget, the line is `no case`. The words keep what the case before left in
+// them.
 //
 // The output. `0`, the steps left, and the dictionary as a listing has it; no dictionary after the test of overlap. Or the
 // refusal's number, the steps left, and its values, a blank before each.
+// How `stdin` and `stdout` came to be. A program apart from this project made 488 cases, most with steps to spare, with
+// just enough and with one less: the instance heads of the scope document and goals for them (33); new heads against older
+// ones, equal up to names, more and less general, overlapping without a match, of other classes (64); givens and their
+// superclasses, diamonds, superclasses listed twice or not declared, a later given (45); contexts with variables that the
+// head has not (15); failing tries and subgoals, repeated ones, equal constructors with other arities, a context of 64
+// (39); superclass chains of 255 to 257 classes (16); 255 to 257 goals deep and 255 to 257 levels of `List` matched,
+// filled and compared (34); goals that never end (24); one goal with every budget (24); random environments of up to 5
+// classes and some 20 instances, with goals mostly for their heads (191); and three no cases. The lines are those of a
+// reference implementation of the scope document in Rust; for the test of overlap it declared an instance, and the steps
+// of its head's nodes were taken off. docs/TESTING.md says more.
 mod lists;
 mod ready;
 mod say;
@@ -24,7 +35,6 @@ use libc::STDIN_FILENO;
 use supers::Root;
 ghost use mathlib.Core.Path.{_≡_};
 ghost use mathlib.Core.List.{_++_};
-ghost use Prim.Native.Nat.{_<_};
 ghost use lib.ListN.{length};
 ghost use Rattle.names.specs.Names.{Names};
 ghost use Rattle.replay_classes.specs.Posed.{Posed};

@@ -8,8 +8,8 @@
 //   1 a made variable: its number (4);
 //   2 a constructor: the number of its name (2), how many arguments (1), and their node numbers (2 each);
 //   3 an arrow: two node numbers (2 each).
-// A node names only nodes of smaller number. Where that is not so, or the words have no room for the budget, the line is
-// `no case`. The words keep what the case before left in them.
+// A node names only nodes of smaller number; any other number is taken for the variable of name 0. Where the words have no
+// room for the budget, the line is `no case`. The words keep what the case before left in them.
 //
 // The output. `0`, the steps left, and ` VARIABLE=TYPE` for each pair of the substitution in its order; or the refusal's
 // number, the steps left, and its values in the order of `InferenceError`, a blank before each. Types are printed as in a
