@@ -2,3 +2,4 @@
 pub mod Ones
 pub mod Marks
 pub mod Loops
+pub mod Means

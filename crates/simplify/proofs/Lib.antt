@@ -1,3 +1,4 @@
 pub mod RowSets
 pub mod Turns
 pub mod Loop
+pub mod Means
