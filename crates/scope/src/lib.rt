@@ -92,16 +92,19 @@ fn apply_row(
         (applied (subAt (now (names .entry)) (now (base .entry) ++ now (work .entry)) at k) (schemeIn (now (names .entry)) (now (base .entry) ++ now (work .entry)) (entryOf (now (env .entry)) r)) left) x ⌝ }
 {
     let e = row_at(env, r);
-    let Entry::Local(vs, ps, t) = e else {
-        return Swept::Done(top, left);
-    };
-    let q = subst::apply_scheme(base, work, names, top, left, at, k, vs, ps, t);
-    match q {
-        AppliedQual::Done(ps2, u, t2, l2) => {
-            put(env, r, Entry::Local(vs, ps2, u));
-            Swept::Done(t2, l2)
+    match e {
+        Entry::Nothing => Swept::Done(top, left),
+        Entry::Closed(_, _, _) => Swept::Done(top, left),
+        Entry::Local(vs, ps, t) => {
+            let q = subst::apply_scheme(base, work, names, top, left, at, k, vs, ps, t);
+            match q {
+                AppliedQual::Done(ps2, u, t2, l2) => {
+                    put(env, r, Entry::Local(vs, ps2, u));
+                    Swept::Done(t2, l2)
+                }
+                AppliedQual::Refused(x, t2, l2) => Swept::Refused(x, t2, l2),
+            }
         }
-        AppliedQual::Refused(e, t2, l2) => Swept::Refused(e, t2, l2),
     }
 }
 
