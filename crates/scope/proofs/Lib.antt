@@ -3,3 +3,5 @@ pub mod EntryLaws
 pub mod Envs
 pub mod Fines
 pub mod Laws
+pub mod Sweeping
+pub mod FreeLaws

@@ -1,74 +1,65 @@
+-- The loop's invariant: the rows of the names that are left, after those before them, give what all of them give. The measure
+-- is how many are left.
+use Prim.Native.Nat.{_-_}
+use mathlib.Core.List.{_++_}
+use native.Mathlib.Omega.{arith}
+use lib.ListN.{length}
+use borrow.Author.Needs.{needs}
+use Rattle.pairs.proofs.Frames.{long}
+use Rattle.scope.proofs.Sweeping.{same-short, Sweeping, sweeping, swept-all, swept-ready, swept-refused, swept-on}
 use Rattle.scope.proofs.apply_env.Statement.{statement}
 use Rattle.scope.proofs.apply_env.Tie as tie
-use Rattle.scope.proofs.apply_env.Reads as reads
-use Rattle.scope.proofs.apply_env.Lts as lts
-use Rattle.scope.proofs.apply_row.Reads as apply-row-reads
 
 abbrev Inv-loop : tie.InvT-loop
-Inv-loop base work₀ names env₀ order top left at k t₀ m₀ i₀ work env t m i = ?
+Inv-loop base work₀ names env₀ order top left at k t₀ m₀ i₀ work env t m i = Sweeping names (base ++ work₀) env₀ order top left at k (base ++ work) env t m i
 
 abbrev μ-loop : tie.MeasureT-loop
-μ-loop base work₀ names env₀ order top left at k t₀ m₀ i₀ work env t m i = ?
+μ-loop base work₀ names env₀ order top left at k t₀ m₀ i₀ work env t m i = length order - i
 
--- src/lib.rt:131:5
 loop-holds : tie.Need-loop-holds Inv-loop μ-loop
-loop-holds c = ?
+loop-holds c = sweeping (c .before .before .before .before .before .pre .1)
 
--- src/lib.rt:132:17
 mul-r : tie.Need-mul-r Inv-loop μ-loop
-mul-r c = ?
+mul-r c = search needs
 
--- src/lib.rt:132:17
 shared-slice-read-r : tie.Need-shared-slice-read-r Inv-loop μ-loop
-shared-slice-read-r c = ?
+shared-slice-read-r c = search needs
 
--- src/lib.rt:133:13
 apply-row-requires : tie.Need-apply-row-requires Inv-loop μ-loop
-apply-row-requires c κs = ?
+apply-row-requires c κs = let a = c .before .before .before .before .before .before .before .before .before .before .pre .0 in let b = c .before .before .before .before .loop .inv .more in (omega arith, swept-ready (c .before .before .before .before .before .before .before .before .before .before .pre .1) (c .before .before .before .before .loop .inv) (c .before .before .before .loop-test .taken))
 
--- src/lib.rt:135:25
 enum-known-q : tie.Need-enum-known-q Inv-loop μ-loop
-enum-known-q c = ?
+enum-known-q c = search needs
 
--- src/lib.rt:139:28
 enum-known-q-2 : tie.Need-enum-known-q-2 Inv-loop μ-loop
-enum-known-q-2 c = ?
+enum-known-q-2 c = search needs
 
--- src/lib.rt:139:42
 same-length : tie.Need-same-length Inv-loop μ-loop
-same-length c = ?
+same-length c = let y = same-short (c .before .before .before .before .before .before .before .before .before .before .before .before .before .before .before .before .before .before .args .base .now) (c .before .before .before .before .before .before .before .before .before .before .before .before .before .before .before .before .before .before .args .work .now) (c .before .before .before .before .before .before .before .before .before .before .before .before .loop .work) (c .before .before .before .before .before .before .before .before .before .before .before .before .loop .inv .long) in let x = c .before .before .before .before .before .before .before .apply-row .kept .1 .0 in omega arith
 
--- src/lib.rt:139:42
 same-length-2 : tie.Need-same-length-2 Inv-loop μ-loop
-same-length-2 c = ?
+same-length-2 c = let y = c .before .before .before .before .before .before .before .before .before .before .before .before .loop .inv .wide in let x = c .before .before .before .before .before .before .before .apply-row .kept .1 .1 .1 .0 in omega arith
 
--- src/lib.rt:139:42
 returns : tie.Need-returns Inv-loop μ-loop
-returns c = ?
+returns c = swept-refused (c .before .before .before .before .before .before .before .before .before .before .before .before .before .before .before .before .before .before .pre .1) (c .before .before .before .before .before .before .before .before .before .before .before .before .loop .inv) (c .before .before .before .before .before .before .before .before .before .before .before .loop-test .taken) (c .before .before .before .before .before .before .before .apply-row .ensures) (c .before .q2 .given .1)
 
--- src/lib.rt:141:9
 add-i : tie.Need-add-i Inv-loop μ-loop
-add-i c = ?
+add-i c = search needs
 
--- src/lib.rt:131:5
 loop-less : tie.Need-loop-less Inv-loop μ-loop
-loop-less c = ?
+loop-less c = let h = c .before .before .before .before .before .before .before .before .before .before .before .loop-test .taken in omega arith
 
--- src/lib.rt:131:5
 loop-again : tie.Need-loop-again Inv-loop μ-loop
-loop-again c = ?
+loop-again c = swept-on (c .before .before .before .before .before .before .before .before .before .before .before .before .before .before .before .before .before .before .pre .1) (c .before .before .before .before .before .before .before .before .before .before .before .before .loop .inv) (c .before .before .before .before .before .before .before .before .before .before .before .loop-test .taken) (c .before .before .before .before .before .before .before .apply-row .ensures) (c .before .q .given .1) (long (c .before .before .before .before .before .before .before .before .before .before .before .before .before .before .before .before .before .before .args .base .now) (c .before .before .before .before .before .before .before .apply-row .last .1 .0) (c .before .before .before .before .before .before .before .before .before .before .before .before .loop .work) (c .before .before .before .before .before .before .before .apply-row .kept .1 .0))
 
--- src/lib.rt:112:1
 same-length-3 : tie.Need-same-length-3 Inv-loop μ-loop
-same-length-3 c = ?
+same-length-3 c = same-short (c .before .before .before .before .before .before .before .args .base .now) (c .before .before .before .before .before .before .before .args .work .now) (c .before .loop .work) (c .before .loop .inv .long)
 
--- src/lib.rt:112:1
 same-length-4 : tie.Need-same-length-4 Inv-loop μ-loop
-same-length-4 c = ?
+same-length-4 c = c .before .loop .inv .wide
 
--- src/lib.rt:112:1
 returns-2 : tie.Need-returns-2 Inv-loop μ-loop
-returns-2 c = ?
+returns-2 c = swept-all (c .before .before .before .before .before .before .before .pre .1) (c .before .loop .inv) (let l = c .loop-test .left in omega arith)
 
 pub apply-env-spec : {M : Type 1} → statement M
 apply-env-spec =

@@ -1,51 +1,43 @@
+-- The loop's invariant: what is left of the list has the variable just where all of it has. The measure is the list's word.
+use mathlib.Core.List.{_++_}
+use borrow.Author.Needs.{needs}
+use Rattle.ast.proofs.Laws.{node-room}
+use Rattle.scope.proofs.FreeLaws.{Looking, looking, looks-none, looks-node, looks-hit, looks-on}
 use Rattle.scope.proofs.in_preds.Statement.{statement}
 use Rattle.scope.proofs.in_preds.Tie as tie
-use Rattle.scope.proofs.in_preds.Reads as reads
-use Rattle.scope.proofs.in_preds.Lts as lts
-use Rattle.ast.proofs.cell_at.Reads as cell-at-reads
-use Rattle.ast.proofs.occurs_in.Reads as occurs-in-reads
 
 abbrev Inv-loop : tie.InvT-loop
-Inv-loop base work names top ps x l₀ l = ?
+Inv-loop base work names top ps x l₀ l = Looking names (base ++ work) top ps x l
 
 abbrev μ-loop : tie.MeasureT-loop
-μ-loop base work names top ps x l₀ l = ?
+μ-loop base work names top ps x l₀ l = l
 
--- src/lib.rt:150:5
 loop-holds : tie.Need-loop-holds Inv-loop μ-loop
-loop-holds c = ?
+loop-holds c = looking _ _ (c .before .before .before .pre .1)
 
--- src/lib.rt:151:13
 cell-at-requires : tie.Need-cell-at-requires Inv-loop μ-loop
-cell-at-requires c κs = ?
+cell-at-requires c κs = node-room (c .loop .inv .node)
 
--- src/lib.rt:154:17
 enum-told : tie.Need-enum-told Inv-loop μ-loop
-enum-told c = ?
+enum-told c = search needs
 
--- src/lib.rt:154:17
 returns : tie.Need-returns Inv-loop μ-loop
-returns c = ?
+returns c = looks-none (c .before .before .before .loop .inv) (c .before .before .cell-at .ensures) (c .enum-told .given .1)
 
--- src/lib.rt:156:24
 enum-known-c : tie.Need-enum-known-c Inv-loop μ-loop
-enum-known-c c = ?
+enum-known-c c = search needs
 
--- src/lib.rt:157:20
 occurs-in-requires : tie.Need-occurs-in-requires Inv-loop μ-loop
-occurs-in-requires c κs = ?
+occurs-in-requires c κs = (c .before .before .before .before .before .before .before .before .pre .0, looks-node (c .before .before .before .before .loop .inv) (c .before .before .before .cell-at .ensures) (c .before .c .given .1))
 
--- src/lib.rt:158:21
 returns-2 : tie.Need-returns-2 Inv-loop μ-loop
-returns-2 c = ?
+returns-2 c = looks-hit (c .before .before .before .before .before .before .loop .inv) (c .before .before .before .before .before .cell-at .ensures) (c .before .before .before .c .given .1) (c .before .occurs-in .ensures) (c .if1 .taken)
 
--- src/lib.rt:150:5
 loop-less : tie.Need-loop-less Inv-loop μ-loop
-loop-less c = ?
+loop-less c = looks-on (c .before .before .before .before .before .before .loop .inv) (c .before .before .before .before .before .cell-at .ensures) (c .before .before .before .c .given .1) (c .before .occurs-in .ensures) (c .if1 .left) .0
 
--- src/lib.rt:150:5
 loop-again : tie.Need-loop-again Inv-loop μ-loop
-loop-again c = ?
+loop-again c = looks-on (c .before .before .before .before .before .before .loop .inv) (c .before .before .before .before .before .cell-at .ensures) (c .before .before .before .c .given .1) (c .before .occurs-in .ensures) (c .if1 .left) .1
 
 pub in-preds-spec : {M : Type 1} → statement M
 in-preds-spec =

@@ -1,35 +1,26 @@
+-- Each way out by its law of `FreeLaws`.
+use Rattle.scope.proofs.FreeLaws.{bound-in, in-type, in-others}
 use borrow.Author.Needs.{needs}
 use Rattle.scope.proofs.in_scheme.Statement.{statement}
 use Rattle.scope.proofs.in_scheme.Tie as tie
-use Rattle.scope.proofs.in_scheme.Reads as reads
-use Rattle.scope.proofs.in_scheme.Lts as lts
-use Rattle.ast.proofs.occurs_in.Reads as occurs-in-reads
-use Rattle.scope.proofs.in_preds.Reads as in-preds-reads
-use Rattle.vars.proofs.has_var.Reads as has-var-reads
 
--- src/lib.rt:186:8
 has-var-requires : tie.Need-has-var-requires
 has-var-requires c κs = search needs
 
--- src/lib.rt:187:9
 returns : tie.Need-returns
-returns c = ?
+returns c = bound-in _ _ _ _ _ _ (c .before .has-var .ensures) (c .if1 .taken)
 
--- src/lib.rt:189:8
 occurs-in-requires : tie.Need-occurs-in-requires
 occurs-in-requires c κs = search needs
 
--- src/lib.rt:190:9
 returns-2 : tie.Need-returns-2
-returns-2 c = ?
+returns-2 c = in-type _ _ _ _ _ _ (c .before .before .before .has-var .ensures) (c .before .before .if1 .left) (c .before .occurs-in .ensures) (c .if2 .taken)
 
--- src/lib.rt:192:5
 in-preds-requires : tie.Need-in-preds-requires
 in-preds-requires c κs = search needs
 
--- src/lib.rt:170:1
 returns-3 : tie.Need-returns-3
-returns-3 c = ?
+returns-3 c = in-others _ _ _ _ _ _ (c .before .before .before .before .has-var .ensures) (c .before .before .before .if1 .left) (c .before .before .occurs-in .ensures) (c .before .if2 .left) (c .in-preds .ensures)
 
 pub in-scheme-spec : {M : Type 1} → statement M
 in-scheme-spec =
