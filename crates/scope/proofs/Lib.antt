@@ -5,3 +5,5 @@ pub mod Fines
 pub mod Laws
 pub mod Sweeping
 pub mod FreeLaws
+pub mod States
+pub mod Empties
