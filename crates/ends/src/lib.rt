@@ -89,13 +89,15 @@ fn meet(
     }
 }
 
-// Moves the words from at up to end up by d.
-fn raise(base: &[u64], work: &mut [u64], at: usize, end: usize, d: usize)
+// Moves the words from at up to end up, so that they end at to.
+fn raise(base: &[u64], work: &mut [u64], at: usize, end: usize, to: usize)
     requires { ⌜ length (now base) ≤ at ⌝ }
     requires { ⌜ at ≤ end ⌝ }
-    requires { ⌜ end + d ≤ length (now base ++ now work) ⌝ }
-    ensures { λ _. ⌜ Raised (now (base .entry) ++ now (work .entry)) (now (base .entry) ++ now (work .exit)) at end d ⌝ }
+    requires { ⌜ end ≤ to ⌝ }
+    requires { ⌜ to ≤ length (now base ++ now work) ⌝ }
+    ensures { λ _. ⌜ Raised (now (base .entry) ++ now (work .entry)) (now (base .entry) ++ now (work .exit)) at end (to - end) ⌝ }
 {
+    let d = to - end;
     let mut i = end;
     while i > at {
         i -= 1;
@@ -141,7 +143,7 @@ fn gather(
     match r {
         Applied::Done(c, t, l) => {
             let to = sp - 2 * c;
-            raise(base, work, lo - 2 * k3, lo, to - lo);
+            raise(base, work, lo - 2 * k3, lo, to);
             compose::compose_in(base, work, names, t, l, to - 2 * k3, k3, c)
         }
         Applied::Refused(e, t, l) => Applied::Refused(e, t, l),

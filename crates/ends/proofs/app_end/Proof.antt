@@ -1,0 +1,72 @@
+use borrow.Author.Needs.{needs}
+use Rattle.ends.proofs.app_end.Statement.{statement}
+use Rattle.ends.proofs.app_end.Tie as tie
+use Rattle.ends.proofs.app_end.Reads as reads
+use Rattle.ends.proofs.app_end.Lts as lts
+use Rattle.ends.proofs.close.Reads as close-reads
+use Rattle.ends.proofs.meet.Reads as meet-reads
+
+-- src/lib.rt:209:19
+mul-lo : tie.Need-mul-lo
+mul-lo c = search needs
+
+-- src/lib.rt:209:14
+sub-lo : tie.Need-sub-lo
+sub-lo c = search needs
+
+-- src/lib.rt:209:28
+mul-lo-2 : tie.Need-mul-lo-2
+mul-lo-2 c = search needs
+
+-- src/lib.rt:209:14
+sub-lo-2 : tie.Need-sub-lo-2
+sub-lo-2 c = search needs
+
+-- src/lib.rt:210:9
+meet-requires : tie.Need-meet-requires
+meet-requires c κs = ?
+
+-- src/lib.rt:212:23
+enum-known-r : tie.Need-enum-known-r
+enum-known-r c = search needs
+
+-- src/lib.rt:212:36
+close-requires : tie.Need-close-requires
+close-requires c κs = ?
+
+-- src/lib.rt:213:26
+enum-known-r-2 : tie.Need-enum-known-r-2
+enum-known-r-2 c = search needs
+
+-- src/lib.rt:189:1
+same-length : tie.Need-same-length
+same-length c = search needs
+
+-- src/lib.rt:189:1
+returns : tie.Need-returns
+returns c = ?
+
+-- src/lib.rt:189:1
+same-length-2 : tie.Need-same-length-2
+same-length-2 c = search needs
+
+-- src/lib.rt:189:1
+returns-2 : tie.Need-returns-2
+returns-2 c = ?
+
+pub app-end-spec : {M : Type 1} → statement M
+app-end-spec =
+    tie.close
+    (tie.spec
+    mul-lo
+    sub-lo
+    mul-lo-2
+    sub-lo-2
+    meet-requires
+    enum-known-r
+    close-requires
+    enum-known-r-2
+    same-length
+    returns
+    same-length-2
+    returns-2)
