@@ -1,3 +1,5 @@
+-- The three regions made one, then a step for the variable.
+use Rattle.ends.proofs.Closing.{close-refused, close-spent, close-done}
 use borrow.Author.Needs.{needs}
 use Rattle.ends.proofs.close.Statement.{statement}
 use Rattle.ends.proofs.close.Tie as tie
@@ -48,7 +50,7 @@ same-length c = search needs
 
 -- src/lib.rt:179:17
 returns : tie.Need-returns
-returns c = ?
+returns c = close-spent (c .before .before .before .before .before .before .before .before .before .before .before .before .before .pre .1 .1) (c .before .before .before .before .before .before .before .before .seen .ensures) (c .before .before .before .before .before .before .gather .ensures) (c .before .before .r .given .1) (c .if1 .taken)
 
 -- src/lib.rt:181:35
 sub-t32 : tie.Need-sub-t32
@@ -64,7 +66,7 @@ same-length-2 c = search needs
 
 -- src/lib.rt:154:1
 returns-2 : tie.Need-returns-2
-returns-2 c = ?
+returns-2 c = close-done (c .before .before .before .before .before .before .before .before .before .before .before .before .before .pre .1 .1) (c .before .before .before .before .before .before .before .before .seen .ensures) (c .before .before .before .before .before .before .gather .ensures) (c .before .before .r .given .1) (c .if1 .left)
 
 -- src/lib.rt:154:1
 same-length-3 : tie.Need-same-length-3
@@ -72,7 +74,7 @@ same-length-3 c = search needs
 
 -- src/lib.rt:154:1
 returns-3 : tie.Need-returns-3
-returns-3 c = ?
+returns-3 c = close-refused (c .before .before .before .before .before .before .before .before .before .before .before .before .pre .1 .1) (c .before .before .before .before .before .before .before .seen .ensures) (c .before .before .before .before .before .gather .ensures) (c .before .r2 .given .1)
 
 pub close-spec : {M : Type 1} → statement M
 close-spec =
