@@ -47,6 +47,7 @@ pub record GrownAbs (w′ : List ℕ) (top left top′ left′ t e : ℕ) : Type
   pub spent : 4 * top′ + 8 * left′ ≤ 4 * top + 8 * left + 4
   pub down : left′ ≤ left
 
+-- The code's answer for an outcome o.
 abbrev pub AnswerAbs : List ℕ → List ℕ → ℕ → ℕ → Out (Ty × Core) → Ended → Type 0
 AnswerAbs ns w′ top left o (Ended-Done t e top′ left′) = (o ≡ done (tree ns w′ t, core ns w′ e) left′) × GrownAbs w′ top left top′ left′ t e
 AnswerAbs ns w′ top left o (Ended-Refused e top′ left′) = Refuses ns w′ top left o e top′ left′
@@ -143,6 +144,7 @@ pub record GrownJoin (slack steps x : ℕ) (ns w′ : List ℕ) (top left sp top
   pub spent : 4 * top′ + 8 * left′ + 2 * k + slack ≤ 4 * top + 8 * left + x
   pub down : left′ + steps ≤ left
 
+-- The code's answer for an outcome o.
 abbrev pub AnswerJoin : ℕ → ℕ → ℕ → List ℕ → List ℕ → ℕ → ℕ → ℕ → Out (Subst × Ty) → Joined → Type 0
 AnswerJoin slack steps x ns w′ top left sp o (Joined-Done t k top′ left′) = (o ≡ done (subAt ns w′ (sp - 2 * k) k, tree ns w′ t) left′) × GrownJoin slack steps x ns w′ top left sp top′ left′ t k
 AnswerJoin slack steps x ns w′ top left sp o (Joined-Refused e top′ left′) = Refuses ns w′ top left o e top′ left′
