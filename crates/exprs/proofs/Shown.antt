@@ -12,10 +12,15 @@ use Rattle.views.specs.ExprViews.{EVarAs, AbsAs, AppAs, LetAs, ExprAs, IsExpr}
 use Rattle.views.specs.declared.ExprNode.{ExprNode}
 use Rattle.views.specs.declared.ExprNode.the-variants.{Var as V-Var, Int as V-Int, Bool as V-Bool, Abs as V-Abs, App as V-App, Let as V-Let, Nothing as V-Nothing}
 use Rattle.views.proofs.Earlier.{named-smaller, named-whole}
-use Rattle.file.specs.Reading.{IsName}
+use Rattle.body.specs.declared.Reading.the-variants.{Good}
+use Rattle.file.specs.Reading.{IsName, Reads}
 use Rattle.exprs.specs.Exprs.{Written, ShownAs, Shows}
 use Rattle.exprs.specs.declared.Node.{Node}
 use Rattle.exprs.specs.declared.Node.the-variants.{Var, Int, Bool, Abs, App, Let, Nothing}
+
+-- Each expression of a file that was accepted is written so.
+pub accepted-written : {bytes ns ix : List ℕ} {a b c d : ℕ} (R : Reads bytes ns ix (Good a b c d)) {i : ℕ} {x : Expr} → nth (R .is .0 .exprs) i ≡ some x → Written bytes ns ix i x
+accepted-written {a = a} {b = b} {c = c} {d = d} R h = record { file = R .is .0; a = a; b = b; c = c; d = d; indexed = R .is .2; there = h }
 
 module _ {bytes ix : List ℕ} {i : ℕ} {e : ExprNode} (G : IsExpr bytes ix i e) where
   module _ {ns : List ℕ} {x : Expr} (W : Written bytes ns ix i x) where
