@@ -140,6 +140,8 @@ module _ {ns w : List ℕ} {top left lo k₂ k₁ : ℕ} (B : Both ns w top left
             sorted = rw (R .1) (sorted-merge (subAt ns w lo k₂) (subAt ns w (lo + 2 * k₂) k₁) (B .other-sorted));
             more = omega arith;
             spent = omega arith;
+            own = omega arith;
+            few = omega arith;
             down = omega arith;
           },
         );

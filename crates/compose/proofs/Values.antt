@@ -284,6 +284,8 @@ module _ {ns w w₁ : List ℕ} {top left lo k₂ k₁ : ℕ} {r : Applied}
             sorted = rw (R .1) (sorted-merge (subAt ns w₁ lo k₂) (subAt ns w₁ (lo + 2 * k₂) k₁) (A .both .other-sorted));
             more = A .more;
             spent = omega arith;
+            own = spent;
+            few = omega arith;
             down = A .down;
           },
         );

@@ -103,13 +103,16 @@ pub record Merged (ns w w′ : List ℕ) (lo k₂ k₁ r : ℕ) : Type 0 where
 
 -- ## Answers that are regions: Done k top left says the k pairs that end at hi
 
--- The region, in order; at most b words are spoken for: the table's, the region's, and 8 for each step left.
+-- The region, in order; at most b words are spoken for: the table's, the region's, and 8 for each step left. Table and
+-- steps take no more than they did, and the region no more than b left beside them.
 pub record GrownSub (b : ℕ) (ns w′ : List ℕ) (top left hi top′ left′ k : ℕ) : Type 0 where
   pub table : Table w′ top′
   pub sub : Sub w′ top′ (hi - 2 * k) k
   pub sorted : Sorted tyvars (subAt ns w′ (hi - 2 * k) k)
   pub more : top ≤ top′
   pub spent : 4 * top′ + 8 * left′ + 2 * k ≤ b
+  pub own : 4 * top′ + 8 * left′ ≤ 4 * top + 8 * left
+  pub few : 4 * top + 8 * left + 2 * k ≤ b
   pub down : left′ ≤ left
 
 abbrev pub AnswerSub : ℕ → List ℕ → List ℕ → ℕ → ℕ → ℕ → Out Subst → Applied → Type 0

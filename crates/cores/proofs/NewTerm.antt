@@ -6,14 +6,14 @@ use mathlib.Core.List.{List}
 use lib.ListN.{length, getD, set}
 use lib.Seq.{getD-set-same, getD-set-other}
 use borrow.Author.Tests.{lt-ltb}
-use Rattle.meaning.specs.Ast.{super, dict-app, dict-proj, dict-rec, _◃_}
+use Rattle.meaning.specs.Ast.{super, cabs, dict-app, dict-proj, dict-rec, _◃_}
 use Rattle.names.specs.Names.{first-node, nameOf}
 use Rattle.ast.specs.Table.{shape, cell, tree, ShapeBelow, CellBelow, Table, Node, pushed}
 use Rattle.ast.proofs.Laws.{kept-tree, kept-table}
 use Rattle.ast.proofs.NewNode.{Pushed, pushed-0, pushed-1, pushed-2, pushed-kept, pushed-node, pushed-cell, length-pushed}
 use Rattle.pairs.specs.Pairs.{Stands}
 use Rattle.pairs.proofs.Frames.{stands-then, pushed-stands, put-length, put-stands}
-use Rattle.cores.specs.declared.Part.the-variants.{DictApp, Super, Rec}
+use Rattle.cores.specs.declared.Part.the-variants.{Abs, DictApp, Super, Rec}
 use Rattle.cores.specs.Parts.{nodePart, readPart, checked, partOf, pushedFour}
 use Rattle.cores.specs.Terms.{core, cores}
 use Rattle.cores.proofs.Parted.{part-at}
@@ -67,6 +67,20 @@ module _ {w′ : List ℕ} (w : List ℕ) (top tag a b d : ℕ) (e : w′ ≡ pu
 
 -- What the writers make, w′ being the words after them.
 module _ {w w′ : List ℕ} {top : ℕ} (ns : List ℕ) (room : 4 * top + 4 ≤ length w) (small : top < first-node) where
+  -- A function of the name x.
+  pub push-lambda : {b : ℕ} (x : ℕ) → Node w top b → w′ ≡ pushedFour w top 4 x b 0 → Pushed (core ns w′) w w′ top (cabs (nameOf ns x) (core ns w b))
+  unfolding nodePart
+  push-lambda {b} x X e =
+      let K = four-stands w top 4 x b 0 e (4 * top + 4) (omega arith) .low in
+      let N = four-node w top 4 x b 0 e room (X .table) small tt tt in
+      let l = lt-ltb b (first-node + top) (X .below) in
+      record {
+        long = four-length w top 4 x b 0 e;
+        kept = K;
+        node = N;
+        is = core-of {r = Abs x b} ns N (sym (four-part w top 4 x b 0 e room ∙ rw l)) ∙ ap (cabs (nameOf ns x)) (kept-core ns K X);
+      }
+
   -- A superclass's dictionary in the dictionary x.
   pub push-super : {x : ℕ} (c s : ℕ) → Node w top x → w′ ≡ pushedFour w top 10 x c s → Pushed (core ns w′) w w′ top (dict-proj (core ns w x) (super (nameOf ns c) (nameOf ns s)))
   unfolding nodePart

@@ -1,4 +1,4 @@
-// Core terms as words over the same tables as types: what a word says, and the nodes that resolution makes.
+// Core terms as words over the same tables as types: what a word says, and the nodes that inference and resolution make.
 use names::Kind;
 ghost use mathlib.Core.Path.{_≡_};
 ghost use mathlib.Core.List.{_++_};
@@ -26,7 +26,9 @@ pub enum Part {
     Rec(usize, usize, usize),
 }
 
-// The tags of the nodes that resolution makes.
+// The tags of the nodes that inference and resolution make.
+const LAMBDA: u64 = 4;
+
 const APP: u64 = 8;
 
 const SUPER: u64 = 10;
@@ -130,6 +132,15 @@ fn push_four(base: &[u64], work: &mut [u64], top: usize, tag: u64, a: usize, b: 
 {
     pairs::put(base, work, 4 * top + 3, d);
     ast::push(base, work, top, tag, a, b);
+}
+
+// Writes the node top: the function of the name x with the body e.
+pub fn push_lambda(base: &[u64], work: &mut [u64], top: usize, x: usize, e: usize)
+    requires { ⌜ length (now base) ≤ 4 * top ⌝ }
+    requires { ⌜ 4 * top + 4 ≤ length (now base ++ now work) ⌝ }
+    ensures { λ _. ⌜ now (base .entry) ++ now (work .exit) ≡ pushedFour (now (base .entry) ++ now (work .entry)) top 4 x e 0 ⌝ }
+{
+    push_four(base, work, top, LAMBDA, x, e, 0);
 }
 
 // Writes the node top: the dictionary of the superclass s in the dictionary e of the class c.

@@ -130,4 +130,7 @@ refuses-within bytes ns ix e g = refused-within bytes _ (g .is)
 
 -- The word of the index is the number.
 pub name-word : (ix : List ℕ) (i r : ℕ) → r ≡ getD ix i 0 → IsName ix i r
-name-word ix i r e = record { is = λ bytes ns f a b c d g x h. ap (λ n. nameOf ns n) e ∙ g .names i x h .named }
+name-word ix i r e = record {
+  is = λ bytes ns f a b c d g x h. ap (λ n. nameOf ns n) e ∙ g .names i x h .named;
+  small = λ bytes ns f a b c d g x h. rw e (g .names i x h .number);
+}

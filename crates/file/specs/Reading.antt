@@ -2,7 +2,7 @@
 use mathlib.Core.Path.{_≡_}
 use mathlib.Core.List.{List, []}
 use mathlib.Core.Option.{some}
-use Prim.Native.Nat.{ℕ, _+_}
+use Prim.Native.Nat.{ℕ, _+_, _<_}
 use lib.ListN.{length}
 use Rattle.meaning.specs.Base.{count, nth}
 use Rattle.meaning.specs.Ast.{Name}
@@ -44,6 +44,7 @@ ReadsAs bytes ns ix (Bad e) = M.read bytes ≡ bad (refusalOf [] [] e)
 pub record Reads (bytes ns ix : List ℕ) (r : Code.Reading) : Type 0 where
   pub is : ReadsAs bytes ns ix r
 
--- A number r of a name: in the table of a file that is read it is the number of the file's i-th name.
+-- A number r of a name: in the table of a file that is read it is the number of the file's i-th name, one of its rows.
 pub record IsName (ix : List ℕ) (i r : ℕ) : Type 0 where
   pub is : (bytes ns : List ℕ) (f : M.File) (a b c d : ℕ) → Indexed bytes ns ix f a b c d → (x : Name) → nth (f .names) i ≡ some x → nameOf ns r ≡ x
+  pub small : (bytes ns : List ℕ) (f : M.File) (a b c d : ℕ) → Indexed bytes ns ix f a b c d → (x : Name) → nth (f .names) i ≡ some x → r < 1_059

@@ -1,0 +1,6 @@
+pub mod Functions
+pub mod Meeting
+pub mod Raising
+pub mod Gathering
+pub mod Closing
+pub mod Means
