@@ -65,3 +65,4 @@ pub mod Renames
 pub mod Readers
 pub mod FileNodes
 pub mod FileRead
+pub mod ResolveSteady
