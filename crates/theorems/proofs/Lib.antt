@@ -66,3 +66,8 @@ pub mod Readers
 pub mod FileNodes
 pub mod FileRead
 pub mod ResolveSteady
+pub mod Bound
+pub mod Residuals
+pub mod RisingNames
+pub mod NamesGeneralized
+pub mod DictNames

@@ -1,5 +1,5 @@
 -- Resolution's answer is no matter of the budget: two resolutions of one predicate that succeed give one dictionary.
-use mathlib.Core.Path.{_≡_, refl, sym, _∙_, subst}
+use mathlib.Core.Path.{_≡_, refl, subst}
 use mathlib.Core.Bool.{Bool, true, false}
 use mathlib.Core.List.{List, [], _∷_}
 use mathlib.Core.Option.{Option, none, some}
@@ -7,14 +7,14 @@ use Prim.Native.Nat.{ℕ, suc, zero, _+_}
 use native.Mathlib.Omega.{arith}
 use Rattle.meaning.specs.Base.{yes?, if}
 use Rattle.meaning.specs.Ast.{Name, same-name, super, Pred, pred, same-pred, Core, dict-proj}
-use Rattle.meaning.specs.Errors.{Refusal, added}
+use Rattle.meaning.specs.Errors.{added}
 use Rattle.meaning.specs.Budget.{Out, done, refused, Steps, settled, attempt, depth}
 use Rattle.meaning.specs.Subst.{Subst, apply-type, apply-pred, apply-preds}
 use Rattle.meaning.specs.Unify.{match-pred}
 use Rattle.meaning.specs.Classes.{ClassEnv, InstanceInfo, Given, class-of, supers-of, or-next, by-supers, by-super-in, by-super, from-givens, resolve-from-givens, Chosen, chosen, by-inst, all-resolved, from-instance, or-instance, resolve-node, resolve-in, resolve}
 use Rattle.meaning.specs.Reduce.{is-head-normal, reduce-one}
 use Rattle.theorems.proofs.Attempted.{definite-of}
-use Rattle.theorems.proofs.Steady.{NotSteps, More, Steady, definite-stays, pure-steady, refuse-steady, then-steady, if-steady, step-steady, apply-steady, match-steady}
+use Rattle.theorems.proofs.Steady.{More, Steady, definite-stays, pure-steady, refuse-steady, then-steady, if-steady, step-steady, apply-steady, match-steady}
 
 -- ## what resolution is made of
 -- Want of steps stays a refusal where an attempt is made; every other refusal comes again.
