@@ -65,3 +65,9 @@ pub mod Renames
 pub mod Readers
 pub mod FileNodes
 pub mod FileRead
+pub mod ResolveSteady
+pub mod Bound
+pub mod Residuals
+pub mod RisingNames
+pub mod NamesGeneralized
+pub mod DictNames
