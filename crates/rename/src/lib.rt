@@ -13,17 +13,18 @@ ghost use Rattle.rename.specs.Renamed.{Renaming, ReadyRename, TypeRename
 // The number of the name of the letter `a`; the other letters follow.
 const LETTER: usize = 9;
 
-// The i-th letter where x is the i-th of the words, else x.
+// The k-th letter where x is the k-th of the words, else x.
 fn letter_of(letters: &[u64], x: usize) -> usize
     requires { ⌜ length (now letters) ≤ 26 ⌝ }
     ensures { λ r. ⌜ r ≡ orWord first-letter x (posAt (now (letters .entry)) x) ⌝ }
 {
-    let mut i: usize = 0;
-    while i < letters.len() {
-        if letters[i] as usize == x {
-            return LETTER + i;
+    let n = letters.len();
+    let mut k: usize = 0;
+    while k < n {
+        if letters[k] as usize == x {
+            return LETTER + k;
         }
-        i = i + 1;
+        k += 1;
     }
     x
 }
@@ -54,7 +55,7 @@ pub fn renamed(
                     return to + i;
                 }
                 l = b;
-                i = i + 1;
+                i += 1;
             }
         }
     }
