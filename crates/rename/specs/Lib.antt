@@ -1,0 +1,2 @@
+pub mod Renaming
+pub mod Renamed
