@@ -16,8 +16,8 @@ use Rattle.scope.specs.Scope.{Scope}
 use Rattle.supers.specs.declared.rows.Row.{Row}
 use Rattle.supers.specs.declared.rows.Row.the-variants.{Pending, Replaced}
 use Rattle.terms.specs.Rows.{replacedFrom}
-use Rattle.pending.specs.declared.own.Earlier.{Earlier}
-use Rattle.pending.specs.declared.own.Earlier.the-variants.{At, Nothing}
+use Rattle.pending.specs.declared.own.Twin.{Twin}
+use Rattle.pending.specs.declared.own.Twin.the-variants.{At, Nothing}
 use Rattle.pending.specs.Rows.{Rotated}
 
 -- ## Binders with equal predicates
@@ -69,11 +69,11 @@ pub record ReadyOwn (ns w ev od bs : List ℕ) (top n t : ℕ) : Type 0 where
 -- ## The first row of a predicate
 
 -- The binders os, and the dictionary's number of the first of them with the predicate p.
-abbrev pub EarlierAs : List Binder → Pred → Earlier → Type 0
+abbrev pub EarlierAs : List Binder → Pred → Twin → Type 0
 EarlierAs os p (At d) = (firstOf os p ≡ some (dvar d, p)) × (d < first-fresh)
 EarlierAs os p Nothing = firstOf os p ≡ none
 
-pub record FindsEarlier (os : List Binder) (p : Pred) (r : Earlier) : Type 0 where
+pub record FindsEarlier (os : List Binder) (p : Pred) (r : Twin) : Type 0 where
   pub says : EarlierAs os p r
 
 -- The word x replaces the dictionary of number d: it is that of the first binder with the predicate p, if p is the

@@ -16,7 +16,7 @@ ghost use Rattle.scope.specs.Scope.{envOf, Scope};
 ghost use Rattle.pending.specs.Owned.{owns, lateRow, FindsEarlier, ReadyOwn, GivesSettled, GivesAliased, GivesLate, GivesDeferred};
 
 // The dictionary's number of a row with a wanted predicate.
-pub enum Earlier {
+pub enum Twin {
     At(usize),
     Nothing,
 }
@@ -62,7 +62,7 @@ fn equal_row(
     j: usize,
     c: usize,
     u: usize,
-) -> Earlier
+) -> Twin
     requires { ⌜ Names (now names) ⌝ }
     requires { ⌜ Binders (now base ++ now work) (now binders) top (j + 1) ⌝ }
     requires { ⌜ Node (now base ++ now work) top u ⌝ }
@@ -71,15 +71,15 @@ fn equal_row(
 {
     let q = supers::rows::row_at(binders, j);
     let Row::Pending(d, b, t) = q else {
-        return Earlier::Nothing;
+        return Twin::Nothing;
     };
     if b != c {
-        return Earlier::Nothing;
+        return Twin::Nothing;
     }
     if ast::same(base, work, names, top, t, u) {
-        return Earlier::At(d);
+        return Twin::At(d);
     }
-    Earlier::Nothing
+    Twin::Nothing
 }
 
 // The dictionary's number of the first pending row before number i with class c at the type u.
@@ -92,7 +92,7 @@ fn earlier(
     i: usize,
     c: usize,
     u: usize,
-) -> Earlier
+) -> Twin
     requires { ⌜ Names (now names) ⌝ }
     requires { ⌜ Binders (now base ++ now work) (now binders) top i ⌝ }
     requires { ⌜ Node (now base ++ now work) top u ⌝ }
@@ -103,13 +103,13 @@ fn earlier(
     while j < i {
         let q = equal_row(base, work, names, binders, top, j, c, u);
         match q {
-            Earlier::At(d) => return Earlier::At(d),
-            Earlier::Nothing => {
+            Twin::At(d) => return Twin::At(d),
+            Twin::Nothing => {
                 j += 1;
             }
         }
     }
-    Earlier::Nothing
+    Twin::Nothing
 }
 
 // The first number where the test holds, else the second.
@@ -145,7 +145,7 @@ fn settle_row(
         return;
     };
     let f = earlier(base, work, names, binders, top, i, c, u);
-    let Earlier::At(e) = f else {
+    let Twin::At(e) = f else {
         return;
     };
     let own = is_own(base, work, names, env, order, top, t, u);
