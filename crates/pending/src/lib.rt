@@ -10,8 +10,8 @@ ghost use lib.ListN.{length};
 ghost use Rattle.pending.specs.Rows.{putRow};
 ghost use Rattle.pending.specs.Swept.{ReadySweep, GivesSwept, GivesRows};
 
-pub mod own;
 pub mod order;
+pub mod own;
 
 // The first free node and the steps left; or a refusal with both.
 pub enum Swept {

@@ -6,10 +6,10 @@ ghost use mathlib.Core.Path.{_≡_};
 ghost use mathlib.Core.List.{[], _++_};
 ghost use Prim.Native.Nat.{_+_, _*_, _<_, _≤_};
 ghost use Rattle.meaning.specs.Base.{if};
-ghost use Rattle.meaning.specs.Ast.{pred};
+ghost use Rattle.meaning.specs.Ast.{var, pred};
 ghost use Rattle.meaning.specs.Subst.{ftv-type};
 ghost use Rattle.meaning.specs.Generalize.{env-ftv};
-ghost use Rattle.names.specs.Names.{Names, nameOf};
+ghost use Rattle.names.specs.Names.{Names, nameOf, tyvarOf};
 ghost use Rattle.ast.specs.Table.{tree, Node};
 ghost use Rattle.supers.specs.Rows.{rowAt, bindersIn, Binders};
 ghost use Rattle.scope.specs.Scope.{envOf, Scope};
@@ -19,6 +19,31 @@ ghost use Rattle.pending.specs.Owned.{owns, lateRow, FindsEarlier, Ready
 pub enum Twin {
     At(usize),
     Nothing,
+}
+
+// Whether the type t has the variable of word x or the environment has it not.
+fn has_own(
+    base: &[u64],
+    work: &[u64],
+    names: &[u64],
+    env: &[u64],
+    order: &[u64],
+    top: usize,
+    t: usize,
+    x: usize,
+) -> bool
+    requires { ⌜ Names (now names) ⌝ }
+    requires { ⌜ Scope (now names) (now base ++ now work) (now env) (now order) top ⌝ }
+    requires { ⌜ Node (now base ++ now work) top t ⌝ }
+    ensures { λ r. ⌜ r ≡ owns (ftv-type (tree (now (names .entry)) (now (base .entry) ++ now (work .entry)) t) [])
+        (env-ftv (envOf (now (names .entry)) (now (base .entry) ++ now (work .entry)) (now (env .entry)) (now (order .entry))))
+        (var (tyvarOf (now (names .entry)) x)) ⌝ }
+{
+    if ast::occurs_in(base, work, names, top, x, t) {
+        return true;
+    }
+    let f = scope::is_free(base, work, names, env, order, top, x);
+    !f
 }
 
 // Whether a residual predicate at the type u stays with a binding of type t: u is a variable that t has or that the environment
@@ -42,14 +67,11 @@ pub fn is_own(
         (tree (now (names .entry)) (now (base .entry) ++ now (work .entry)) u) ⌝ }
 {
     let s = ast::shape_at(base, work, u);
-    let Shape::Var(x) = s else {
-        return true;
-    };
-    if ast::occurs_in(base, work, names, top, x, t) {
-        return true;
+    match s {
+        Shape::Var(x) => has_own(base, work, names, env, order, top, t, x),
+        Shape::Con(_, _) => true,
+        Shape::Arrow(_, _) => true,
     }
-    let f = scope::is_free(base, work, names, env, order, top, x);
-    !f
 }
 
 // The dictionary's number of row j, if that is pending with class c at the type u.
@@ -150,7 +172,13 @@ fn settle_row(
     };
     let own = is_own(base, work, names, env, order, top, t, u);
     let x = pick(own, e, d);
-    crate::put_row(binders, i, d as u64, supers::rows::MARK, (names::FRESH + x) as u64);
+    crate::put_row(
+        binders,
+        i,
+        d as u64,
+        supers::rows::MARK,
+        (names::FRESH + x) as u64,
+    );
 }
 
 // Of the first n rows that are pending with equal predicates the first stays, and the others are replaced.
