@@ -1,0 +1,5 @@
+pub mod Puts
+pub mod Sweeps
+pub mod Loops
+pub mod Firsts
+pub mod Owns

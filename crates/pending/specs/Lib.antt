@@ -1,0 +1,3 @@
+pub mod Swept
+pub mod Rows
+pub mod Owned
