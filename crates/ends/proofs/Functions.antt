@@ -8,13 +8,13 @@ use Rattle.meaning.specs.Ast.{Name, TyVar, Ty, var, arrow, Core, cabs}
 use Rattle.meaning.specs.Budget.{Out, done}
 use Rattle.meaning.specs.Subst.{Subst, apply-in}
 use Rattle.names.specs.Names.{first-node, nameOf, tyvarOf}
-use Rattle.ast.specs.Table.{tree, Node, pushed}
+use Rattle.ast.specs.Table.{tree, pushed}
 use Rattle.ast.proofs.Laws.{kept-tree, kept-then, node-more, low-node, low-var}
 use Rattle.ast.proofs.NewNode.{Pushed, push-arrow}
 use Rattle.errors.specs.declared.Refusal.{Refusal}
 use Rattle.pairs.specs.Pairs.{subAt}
 use Rattle.pairs.proofs.Frames.{stands-then, stands-up, pushed-stands}
-use Rattle.apply.specs.Region.{Ready, Grown, Gives}
+use Rattle.apply.specs.Region.{Ready, Gives}
 use Rattle.apply.specs.declared.Applied.{Applied}
 use Rattle.apply.specs.declared.Applied.the-variants.{Done as A-Done, Refused as A-Refused}
 use Rattle.apply.proofs.Hand.{Then, then-done, refuse-on, gave, failed}

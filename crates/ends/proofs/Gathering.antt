@@ -8,10 +8,10 @@ use lib.ListN.{length, getD}
 use Rattle.meaning.specs.Budget.{Out, done, after}
 use Rattle.meaning.specs.Subst.{Subst, compose}
 use Rattle.names.specs.Names.{first-node}
-use Rattle.ast.specs.Table.{Table, Kept}
+use Rattle.ast.specs.Table.{Kept}
 use Rattle.ast.proofs.Laws.{kept-table, kept-then}
 use Rattle.errors.specs.declared.Refusal.{Refusal}
-use Rattle.pairs.specs.Pairs.{subAt, Sub, Stands}
+use Rattle.pairs.specs.Pairs.{subAt, Stands}
 use Rattle.pairs.proofs.Frames.{stands-then, stands-up, sub-later, sub-stands}
 use Rattle.apply.specs.declared.Applied.{Applied}
 use Rattle.apply.specs.declared.Applied.the-variants.{Done, Refused}

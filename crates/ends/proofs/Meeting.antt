@@ -9,7 +9,7 @@ use Rattle.meaning.specs.Budget.{Out}
 use Rattle.meaning.specs.Subst.{Subst, apply-in}
 use Rattle.meaning.specs.Unify.{unify-in}
 use Rattle.names.specs.Names.{first-node, tyvarOf}
-use Rattle.ast.specs.Table.{tree, Node, pushed}
+use Rattle.ast.specs.Table.{tree, pushed}
 use Rattle.ast.proofs.Laws.{kept-tree, node-more, low-node, low-var}
 use Rattle.ast.proofs.NewNode.{Pushed, pushed-old, push-arrow}
 use Rattle.errors.specs.declared.Refusal.{Refusal}

@@ -2,12 +2,12 @@
 use mathlib.Core.Path.{_≡_, refl, sym, _∙_}
 use mathlib.Core.List.{List}
 use mathlib.Core.Logic.{_⊎_, ⊎-elim}
-use Prim.Native.Nat.{ℕ, _+_, _*_, _-_, _<_, _≤_}
+use Prim.Native.Nat.{ℕ, _+_, _-_, _<_, _≤_}
 use native.Mathlib.Omega.{arith}
 use native.Mathlib.Nat.{eq-or-lt-of-le}
 use lib.ListN.{length, getD, set, length-set}
 use lib.Seq.{getD-set-same, getD-set-other}
-use Rattle.names.specs.Names.{first-nullary, first-node}
+use Rattle.names.specs.Names.{first-nullary}
 use Rattle.ast.proofs.Laws.{low-var}
 use Rattle.pairs.specs.Pairs.{findAt}
 use Rattle.pairs.specs.declared.Found.{Found}

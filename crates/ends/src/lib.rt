@@ -2,9 +2,8 @@
 use apply::Applied;
 use errors::Refusal;
 use pairs::Found;
-ghost use mathlib.Core.Path.{_≡_};
 ghost use mathlib.Core.List.{_++_};
-ghost use Prim.Native.Nat.{ℕ, _+_, _*_, _-_, _<_, _≤_};
+ghost use Prim.Native.Nat.{_+_, _*_, _-_, _<_, _≤_};
 ghost use lib.ListN.{length};
 ghost use Rattle.names.specs.Names.{nameOf, tyvarOf, first-nullary};
 ghost use Rattle.ast.specs.Table.{tree};

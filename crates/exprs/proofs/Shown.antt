@@ -8,14 +8,13 @@ use Rattle.meaning.specs.Ast.{Name, Expr, eabs, evar, elet}
 use Rattle.names.specs.Names.{nameOf}
 use Rattle.sections.specs.Parts.{upto}
 use Rattle.views.specs.Numbers.{Named}
-use Rattle.views.specs.ExprViews.{EVarAs, AbsAs, AppAs, LetAs, ExprAs, IsExpr}
+use Rattle.views.specs.ExprViews.{ExprAs, IsExpr}
 use Rattle.views.specs.declared.ExprNode.{ExprNode}
 use Rattle.views.specs.declared.ExprNode.the-variants.{Var as V-Var, Int as V-Int, Bool as V-Bool, Abs as V-Abs, App as V-App, Let as V-Let, Nothing as V-Nothing}
 use Rattle.views.proofs.Earlier.{named-smaller, named-whole}
 use Rattle.body.specs.declared.Reading.the-variants.{Good}
 use Rattle.file.specs.Reading.{IsName, Reads}
-use Rattle.exprs.specs.Exprs.{Written, ShownAs, Shows}
-use Rattle.exprs.specs.declared.Node.{Node}
+use Rattle.exprs.specs.Exprs.{Written, Shows}
 use Rattle.exprs.specs.declared.Node.the-variants.{Var, Int, Bool, Abs, App, Let, Nothing}
 
 -- Each expression of a file that was accepted is written so.
