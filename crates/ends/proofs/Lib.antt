@@ -3,4 +3,3 @@ pub mod Meeting
 pub mod Raising
 pub mod Gathering
 pub mod Closing
-pub mod Means
