@@ -1,5 +1,5 @@
 -- There are such environments: without names, with no scheme at all, and an order that is not that of the numbers.
-use mathlib.Core.Path.{_≡_, refl, _∙_}
+use mathlib.Core.Path.{_≡_, refl}
 use mathlib.Core.Bool.{true}
 use mathlib.Core.List.{List, [], _∷_}
 use Prim.Native.Nat.{ℕ, zero, suc, _+_, _*_, _<_, _≤_}
@@ -9,7 +9,7 @@ use lib.ListN.{length, getD}
 use Rattle.meaning.specs.Base.{ltb}
 use Rattle.meaning.specs.Ast.{name-before}
 use Rattle.names.specs.Names.{nameOf, row}
-use Rattle.scope.specs.Scope.{entryOf, envFrom, envOf, Listed, Order, EntryIn, Scope}
+use Rattle.scope.specs.Scope.{entryOf, envFrom, envOf, Listed, Order, Scope}
 use Rattle.scope.specs.declared.Entry.the-variants.{Nothing}
 
 -- No names are in order.
@@ -29,12 +29,13 @@ no-env ns w = refl
 pub bare-scope : (ns w ev od : List ℕ) (top : ℕ) → Order ns od → length ev ≡ 4 * length od → ((r : ℕ) → r < length od → entryOf ev r ≡ Nothing) → Scope ns w ev od top
 bare-scope ns w ev od top O f h = record { order = O; fits = f; entries = λ r k. rw (h r k) tt }
 
--- They are the empty environment too.
+-- So many of them have no scheme.
 bare-from : (ns w ev od : List ℕ) (i k : ℕ) → ((j : ℕ) → i ≤ j → j < i + k → entryOf ev (getD od j 0) ≡ Nothing) → envFrom ns w ev od i k ≡ []
 unfolding envFrom
 bare-from ns w ev od i zero h = refl
 bare-from ns w ev od i (suc k) h = rw (h i (omega arith) (omega arith)) (bare-from ns w ev od (suc i) k (λ j p q. h j (omega arith) (omega arith)))
 
+-- They are the empty environment too.
 pub bare-env : (ns w ev od : List ℕ) → Order ns od → ((r : ℕ) → r < length od → entryOf ev r ≡ Nothing) → envOf ns w ev od ≡ []
 bare-env ns w ev od O h = bare-from ns w ev od 0 (length od) (λ j p q. h (getD od j 0) (O .below j (omega arith)))
 

@@ -13,7 +13,7 @@ use Rattle.meaning.specs.Map.{names, get}
 use Rattle.meaning.specs.Generalize.{Env}
 use Rattle.names.specs.Names.{nameOf}
 use Rattle.theorems.proofs.Maps.{get-cons-same, get-cons-other}
-use Rattle.theorems.proofs.Ordered.{Ordered, Below, Sorted}
+use Rattle.theorems.proofs.Ordered.{Below, Sorted}
 use Rattle.theorems.proofs.ByteOrder.{names-ordered}
 use Rattle.scope.specs.Scope.{entryOf, schemeIn, withScheme, envFrom, Order}
 

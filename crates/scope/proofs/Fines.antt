@@ -1,12 +1,12 @@
 -- Schemes that are modest and of small classes stay so under a substitution, and what holds of an entry holds as long as the
 -- table stands.
-use mathlib.Core.Path.{_≡_, refl, ap, sym, _∙_}
-use mathlib.Core.Bool.{Bool, true}
-use mathlib.Core.List.{List, [], _∷_, map}
-use Prim.Native.Nat.{ℕ, _+_, _<_, _≤_}
+use mathlib.Core.Path.{_≡_, refl}
+use mathlib.Core.List.{List, [], _∷_}
+use mathlib.Core.Option.{some}
+use Prim.Native.Nat.{ℕ, _<_, _≤_}
 use native.Mathlib.Omega.{arith}
 use Rattle.meaning.specs.Base.{null, count, total}
-use Rattle.meaning.specs.Ast.{Name, TyVar, Ty, Tys, var, con, arrow, nil, _◂_, size, sizes, Pred, pred, Qual, qual, Scheme, forall}
+use Rattle.meaning.specs.Ast.{Ty, Tys, var, con, arrow, nil, _◂_, size, sizes, Pred, pred, Qual, qual, Scheme, forall}
 use Rattle.meaning.specs.Budget.{depth}
 use Rattle.meaning.specs.Subst.{Subst, look, filtered, apply-type, apply-preds, apply-qual, ftv-scheme, apply-scheme}
 use Rattle.meaning.specs.Plain.{Fill, sub, subs, sub-preds}
@@ -15,14 +15,17 @@ use Rattle.meaning.specs.Declare.{pred-nodes}
 use Rattle.meaning.specs.Session.{scheme-nodes}
 use Rattle.theorems.proofs.Says.{Says, Limit, and-then, if-says}
 use Rattle.theorems.proofs.Applied.{apply-says, preds-say}
-use Rattle.ast.specs.Table.{tree, Table, Node, Kept}
+use Rattle.ast.specs.Table.{cellOf, tree, Table, Node, Kept}
+use Rattle.ast.specs.declared.Cell.{Cell}
+use Rattle.ast.specs.declared.Cell.the-variants.{Cons}
 use Rattle.ast.proofs.Laws.{kept-tree, node-more, low-node}
 use Rattle.names.specs.Names.{Names, nameOf}
 use Rattle.names.proofs.Distinct.{nameOf-same}
 use Rattle.vars.proofs.VarLaws.{kept-vars, low-vars}
 use Rattle.subst.specs.Schemes.{schemeOf}
-use Rattle.subst.proofs.PredLaws.{kept-preds, low-preds}
-use Rattle.scope.specs.Scope.{schemeIn, Small, Smalls, no-preds, one-more, Fine, Held, HeldClosed, EntryIn}
+use Rattle.subst.specs.Preds.{classAt, predsOf}
+use Rattle.subst.proofs.PredLaws.{kept-preds, low-preds, preds-cons}
+use Rattle.scope.specs.Scope.{schemeIn, Small, Smalls, no-preds, one-more, Fine, Held, EntryIn}
 use Rattle.scope.specs.declared.Entry.{Entry}
 use Rattle.scope.specs.declared.Entry.the-variants.{Nothing, Closed, Local}
 
@@ -95,6 +98,12 @@ small-head p ps (one-more a s) = a
 pub small-tail : {ns : List ℕ} (p : Pred) (ps : List Pred) → Smalls ns (p ∷ ps) → Smalls ns ps
 small-tail p ps (one-more a s) = s
 
+-- The same of a list's word: its first class and the rest of it.
+pub small-cell : {w : List ℕ} {top l a b : ℕ} {r : Cell} (ns : List ℕ) → Names ns → Node w top l → r ≡ cellOf w l → r ≡ Cons a b → Smalls ns (predsOf ns w l) → (classAt w l < 65536) × Smalls ns (predsOf ns w b)
+small-cell {w} {l = l} {a = a} {b = b} ns M N e k s =
+    let z : Smalls ns (pred (nameOf ns (classAt w l)) (tree ns w a) ∷ predsOf ns w b) = rw (preds-cons ns N e k) at s in
+    (small-number ns M (classAt w l) (small-head _ _ z), small-tail _ _ z)
+
 -- ## While the table stands
 
 -- A scheme's words stand for the same scheme.
@@ -128,6 +137,10 @@ scheme-kept ns (Local vs ps t) K E = rw (kept-scheme ns K (E .vars) (E .preds) (
 -- No variables and no predicates.
 pub mono-is : (ns w : List ℕ) (t : ℕ) → schemeOf ns w 0 0 t ≡ mono (tree ns w t)
 mono-is ns w t = rw (low-vars ns w 0 (omega arith), low-preds ns w 0 (omega arith))
+
+-- What an entry of the three words has.
+pub mono-in : (ns w : List ℕ) (t : ℕ) → schemeIn ns w (Local 0 0 t) ≡ some (mono (tree ns w t))
+mono-in ns w t = rw (mono-is ns w t)
 
 -- It is fine.
 pub mono-fine : (ns : List ℕ) (u : Ty) → Fine ns (mono u)

@@ -1,12 +1,12 @@
 -- Whether a variable is free in an environment: in a list of predicates, a scheme, a row, and all rows.
 use mathlib.Core.Path.{_≡_, refl, ap, sym, _∙_}
-use mathlib.Core.Bool.{Bool, true, false, not, _||_, _&&_}
+use mathlib.Core.Bool.{Bool, true, false, _||_, _&&_}
 use mathlib.Core.List.{List, [], _++_}
 use mathlib.Core.Option.{Option, none, some}
-use Prim.Native.Nat.{ℕ, suc, _+_, _*_, _-_, _<_, _≤_}
+use Prim.Native.Nat.{ℕ, suc, _+_, _-_, _<_, _≤_}
 use native.Mathlib.Omega.{arith}
 use native.Mathlib.Numerals.{add-one}
-use lib.ListN.{length, getD}
+use lib.ListN.{length}
 use Rattle.meaning.specs.Ast.{Name, TyVar, Pred, Scheme}
 use Rattle.meaning.specs.Map.{tyvars, elem}
 use Rattle.meaning.specs.Subst.{ftv-preds, ftv-scheme, occurs}
@@ -22,7 +22,7 @@ use Rattle.vars.proofs.Bound.{and-false}
 use Rattle.subst.specs.Preds.{predsOf}
 use Rattle.subst.specs.Schemes.{schemeOf}
 use Rattle.subst.proofs.PredLaws.{preds-nil, preds-cons}
-use Rattle.scope.specs.Scope.{entryOf, schemeIn, withScheme, envFrom, envOf, Held, HeldClosed, EntryIn, Scope}
+use Rattle.scope.specs.Scope.{entryOf, schemeIn, withScheme, envFrom, envOf, Held, HeldClosed, EntryIn}
 use Rattle.scope.specs.Sweeps.{ftvIn}
 use Rattle.scope.specs.declared.Entry.{Entry}
 use Rattle.scope.specs.declared.Entry.the-variants.{Nothing, Closed, Local}

@@ -1,7 +1,7 @@
 -- What inference does with its environment, over rows: look up, insert, put back, and that it stands while the table does.
-use mathlib.Core.Path.{_≡_, refl, sym, _∙_}
+use mathlib.Core.Path.{_≡_, sym, _∙_}
 use mathlib.Core.List.{List}
-use mathlib.Core.Option.{Option, none, some}
+use mathlib.Core.Option.{none, some}
 use mathlib.Core.Logic.{_≢_}
 use Prim.Native.Nat.{ℕ, _+_, _*_, _<_, _≤_}
 use native.Mathlib.Omega.{arith}
@@ -9,19 +9,17 @@ use native.Mathlib.Decide.{ℕ-discrete}
 use lib.ListN.{length, getD}
 use Rattle.meaning.specs.Ast.{Name, same-name, Scheme}
 use Rattle.meaning.specs.Map.{names, get, insert, remove}
-use Rattle.meaning.specs.Generalize.{Env}
 use Rattle.theorems.proofs.Maps.{get-insert-same, get-insert-other}
 use Rattle.theorems.proofs.Ordered.{sorted-insert, sorted-remove, same-finds}
 use Rattle.theorems.proofs.ByteOrder.{names-ordered}
 use Rattle.theorems.proofs.Stays.{get-remove-same, get-remove-other}
 use Rattle.names.specs.Names.{nameOf}
 use Rattle.ast.specs.Table.{Table, Kept}
-use Rattle.subst.specs.Schemes.{schemeOf}
-use Rattle.scope.specs.Scope.{entryOf, withEntry, schemeIn, envOf, Listed, Order, EntryIn, Scope}
+use Rattle.scope.specs.Scope.{entryOf, withEntry, schemeIn, envOf, Order, EntryIn, Scope}
 use Rattle.scope.specs.declared.Entry.{Entry}
-use Rattle.scope.specs.declared.Entry.the-variants.{Nothing, Closed, Local}
+use Rattle.scope.specs.declared.Entry.the-variants.{Nothing}
 use Rattle.scope.proofs.EntryLaws.{entry-long, entry-here, entry-other}
-use Rattle.scope.proofs.Envs.{nameAt, envs-same, finds-same, in-order, found-at}
+use Rattle.scope.proofs.Envs.{envs-same, finds-same, in-order, found-at}
 use Rattle.scope.proofs.Fines.{entry-kept, scheme-kept}
 
 -- ## By the order alone
@@ -67,21 +65,11 @@ module _ {ns w ev od : List ℕ} {top : ℕ} (S : Scope ns w ev od top) where
   scope-get r h = row-get (S .order) w ev r h
 
   module _ (r : ℕ) (h : r < length od) where
-    -- A scheme that is known to be closed is inserted.
-    pub scope-put-closed : (vs ps t : ℕ) → envOf ns w (withEntry ev r (Closed vs ps t)) od ≡ insert names (nameOf ns r, schemeOf ns w vs ps t) (envOf ns w ev od)
-    scope-put-closed vs ps t =
-        row-put (S .order) w ev (withEntry ev r (Closed vs ps t)) r h (entry-other ev r (Closed vs ps t)) (schemeOf ns w vs ps t) (rw (entry-here ev r (Closed vs ps t) (scope-row r h)))
-
-    -- Any other scheme is.
-    pub scope-put-local : (vs ps t : ℕ) → envOf ns w (withEntry ev r (Local vs ps t)) od ≡ insert names (nameOf ns r, schemeOf ns w vs ps t) (envOf ns w ev od)
-    scope-put-local vs ps t =
-        row-put (S .order) w ev (withEntry ev r (Local vs ps t)) r h (entry-other ev r (Local vs ps t)) (schemeOf ns w vs ps t) (rw (entry-here ev r (Local vs ps t) (scope-row r h)))
-
-    -- Whatever entry has a scheme.
+    -- `env.insert`: an entry that has a scheme is written, known to be closed or not.
     pub scope-put : (e : Entry) (c : Scheme) → schemeIn ns w e ≡ some c → envOf ns w (withEntry ev r e) od ≡ insert names (nameOf ns r, c) (envOf ns w ev od)
     scope-put e c k = row-put (S .order) w ev (withEntry ev r e) r h (entry-other ev r e) c (rw (entry-here ev r e (scope-row r h)) k)
 
-    -- A name is removed.
+    -- `env.remove`: the row says nothing.
     pub scope-drop : envOf ns w (withEntry ev r Nothing) od ≡ remove names (nameOf ns r) (envOf ns w ev od)
     scope-drop = row-drop (S .order) w ev (withEntry ev r Nothing) r h (entry-other ev r Nothing) (rw (entry-here ev r Nothing (scope-row r h)))
 

@@ -2,8 +2,8 @@
 use mathlib.Core.Path.{_≡_}
 use mathlib.Core.List.{List, []}
 use mathlib.Core.Option.{Option, none, some}
-use Prim.Native.Nat.{ℕ, _+_, _*_, _<_, _≤_}
-use lib.ListN.{length, getD}
+use Prim.Native.Nat.{ℕ, _+_, _*_, _≤_}
+use lib.ListN.{length}
 use Rattle.meaning.specs.Ast.{TyVar, Scheme}
 use Rattle.meaning.specs.Budget.{Out, done, after}
 use Rattle.meaning.specs.Subst.{Subst, ftv-scheme, apply-scheme}
@@ -18,7 +18,7 @@ use Rattle.scope.specs.declared.Swept.the-variants.{Done, Refused}
 
 -- ## One row
 
--- The k pairs from at, where the stack ends, and a row e: between table and stack is room for 8 words a step.
+-- The k pairs from at, where the stack ends, and row r: between table and stack is room for 8 words a step.
 pub record ReadyRow (ns w ev : List ℕ) (top left at k r : ℕ) : Type 0 where
   pub names : Names ns
   pub table : Table w top
