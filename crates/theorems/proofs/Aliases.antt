@@ -2,7 +2,7 @@
 -- simplify_context removed it; and the whole of `sub_map`.
 use mathlib.Core.Path.{_≡_, refl, ap, sym, _∙_, subst}
 use mathlib.Core.Bool.{Bool, true, false, not, _&&_}
-use mathlib.Core.List.{List, [], _∷_, _++_, map, List·Memᴰ, List·Memᴰ·head, List·Memᴰ·tail, List·Memᴰ·not-nil, List·Memᴰ·cases-cons, Memᴰ·cast, Memᴰ·map}
+use mathlib.Core.List.{List, [], _∷_, _++_, map, List·Memᴰ, List·Memᴰ·head, List·Memᴰ·tail, List·Memᴰ·not-nil, List·Memᴰ·cases-cons, List·Memᴰ·eq-of-singleton, List·Memᴰ·append-cases, Memᴰ·cast, Memᴰ·map}
 use mathlib.Core.Option.{Option, none, some}
 use mathlib.Core.Logic.{_≢_, _⊎_, inl, inr}
 use Prim.Native.Nat.{ℕ, suc, _≤_}
@@ -18,7 +18,7 @@ use Rattle.theorems.proofs.Maps.{get-insert-same, get-insert-other}
 use Rattle.theorems.proofs.Tests.{yes?-of, no?-of}
 use Rattle.theorems.proofs.Members.{Distinct}
 use Rattle.theorems.proofs.Bound.{names-of}
-use Rattle.theorems.proofs.RisingNames.{Rising, NotIn, DistinctNames, rising-append}
+use Rattle.theorems.proofs.RisingNames.{Within, Rising, NotIn, DistinctNames, rising-within, rising-append, within-apart}
 use Rattle.theorems.proofs.Discharges.{NamesDiffer, fill-by, fill-absent, fill-at}
 
 -- ## other names of a binder's predicate
@@ -106,9 +106,11 @@ rising-to : (lo mid hi : ℕ) (ds : List DictName) → Rising lo mid ds → mid 
 rising-to lo mid hi [] h k = let j : lo ≤ mid = h in omega arith
 rising-to lo mid hi (d ∷ ds) (i, e, l, r) k = (i, e, l, rising-to (suc i) mid hi ds r k)
 
--- Kept names and removed names rise.
-abbrev pub Sorted : ℕ → ℕ → List Binder × List Removed → Type 0
-Sorted lo hi o = Rising lo hi (names-of (o .0)) × Rising lo hi (removed-names (o .1))
+-- Kept names and removed names rise, and none is both.
+pub record Sorted (lo hi : ℕ) (o : List Binder × List Removed) : Type 0 where
+  pub kept-rise : Rising lo hi (names-of (o .0))
+  pub removed-rise : Rising lo hi (removed-names (o .1))
+  pub apart : (d : DictName) → List·Memᴰ d (names-of (o .0)) → List·Memᴰ d (removed-names (o .1)) → ⊥
 
 names-snoc : (bs : List Binder) (b : Binder) → names-of (bs ++ (b ∷ [])) ≡ names-of bs ++ (b .0 ∷ [])
 names-snoc [] b = refl
@@ -122,20 +124,42 @@ removed-snoc (a ∷ rs) r = ap (λ (l : List DictName). a .0 ∷ l) (removed-sno
 rising-snoc : (lo mid i : ℕ) (ds : List DictName) (d : DictName) → Rising lo mid ds → d ≡ dvar i → mid ≤ i → Rising lo (suc i) (ds ++ (d ∷ []))
 rising-snoc lo mid i ds d h e l = rising-append lo mid (suc i) ds (d ∷ []) h (i, e, l, omega arith)
 
+-- A name within bounds is none that comes later.
+later-apart : (lo mid i : ℕ) (d c : DictName) → Within lo mid d → c ≡ dvar i → mid ≤ i → d ≢ c
+later-apart lo mid i d c w e l x = within-apart lo mid (suc i) d w (record { number = i; is = x ∙ e; from = l; below = omega arith })
+
 sorted-turn : (lo mid i : ℕ) (b : Binder) (a : Option Core) (o : List Binder × List Removed) → Sorted lo mid o → b .0 ≡ dvar i → mid ≤ i → Sorted lo (suc i) (sorted-out b a o)
 unfolding sorted-out
-sorted-turn lo mid i b (some f) o h e l =
-    (rising-to lo mid (suc i) (names-of (o .0)) (h .0) (omega arith), rw (removed-snoc (o .1) (b .0, f)) (rising-snoc lo mid i (removed-names (o .1)) (b .0) (h .1) e l))
-sorted-turn lo mid i b none o h e l =
-    (rw (names-snoc (o .0) b) (rising-snoc lo mid i (names-of (o .0)) (b .0) (h .0) e l), rising-to lo mid (suc i) (removed-names (o .1)) (h .1) (omega arith))
+sorted-turn lo mid i b (some f) o h e l = record {
+  kept-rise = rising-to lo mid (suc i) (names-of (o .0)) (h .kept-rise) (omega arith);
+  removed-rise = rw (removed-snoc (o .1) (b .0, f)) (rising-snoc lo mid i (removed-names (o .1)) (b .0) (h .removed-rise) e l);
+  apart = λ d m k. go d m (List·Memᴰ·append-cases (removed-names (o .1)) (rw (removed-snoc (o .1) (b .0, f)) at k));
+}
+  where
+    go : (d : DictName) → List·Memᴰ d (names-of (o .0)) → List·Memᴰ d (removed-names (o .1)) ⊎ List·Memᴰ d (b .0 ∷ []) → ⊥
+    go d m (inl k) = h .apart d m k
+    go d m (inr k) = later-apart lo mid i d (b .0) (rising-within lo mid (names-of (o .0)) (h .kept-rise) d m) e l (List·Memᴰ·eq-of-singleton k)
+sorted-turn lo mid i b none o h e l = record {
+  kept-rise = rw (names-snoc (o .0) b) (rising-snoc lo mid i (names-of (o .0)) (b .0) (h .kept-rise) e l);
+  removed-rise = rising-to lo mid (suc i) (removed-names (o .1)) (h .removed-rise) (omega arith);
+  apart = λ d k m. go d m (List·Memᴰ·append-cases (names-of (o .0)) (rw (names-snoc (o .0) b) at k));
+}
+  where
+    go : (d : DictName) → List·Memᴰ d (removed-names (o .1)) → List·Memᴰ d (names-of (o .0)) ⊎ List·Memᴰ d (b .0 ∷ []) → ⊥
+    go d m (inl k) = h .apart d k m
+    go d m (inr k) = later-apart lo mid i d (b .0) (rising-within lo mid (removed-names (o .1)) (h .removed-rise) d m) e l (List·Memᴰ·eq-of-singleton k)
 
 sorted-from : (ce : ClassEnv) (lo mid hi : ℕ) (bs : List Binder) (o : List Binder × List Removed) (n : ℕ) → Sorted lo mid o → Rising mid hi (names-of bs)
     → Says (Sorted lo hi) Any (simplify-from ce bs o n)
 unfolding simplify-from
-sorted-from ce lo mid hi [] o n h r = (rising-to lo mid hi (names-of (o .0)) (h .0) r, rising-to lo mid hi (removed-names (o .1)) (h .1) r)
+sorted-from ce lo mid hi [] o n h r = record {
+  kept-rise = rising-to lo mid hi (names-of (o .0)) (h .kept-rise) r;
+  removed-rise = rising-to lo mid hi (removed-names (o .1)) (h .removed-rise) r;
+  apart = h .apart;
+}
 sorted-from ce lo mid hi (b ∷ bs) o n h (i, e, l, r) =
     past _ (find-super-proof ce (o .0 ++ bs) (b .1) n) _ λ a m. sorted-from ce lo (suc i) hi bs (sorted-out b a o) m (sorted-turn lo mid i b a o h e l) r
 
 -- Of binders with rising names simplify_context keeps some and removes some, each in order.
 pub simplify-sorts : (ce : ClassEnv) (lo hi : ℕ) (bs : List Binder) (n : ℕ) → Rising lo hi (names-of bs) → Says (Sorted lo hi) Any (simplify-context ce bs n)
-simplify-sorts ce lo hi bs n h = sorted-from ce lo lo hi bs ([], []) n (omega arith, omega arith) h
+simplify-sorts ce lo hi bs n h = sorted-from ce lo lo hi bs ([], []) n (record { kept-rise = omega arith; removed-rise = omega arith; apart = λ d m k. List·Memᴰ·not-nil m }) h

@@ -15,7 +15,7 @@ use Rattle.theorems.proofs.Members.{Distinct, contains-true, contains-f
 use Rattle.theorems.proofs.Residuals.{is-new, left-of, firsts}
 
 -- The test of a new predicate, as facts.
-new-facts : (rs : List Pred) (p : Pred) → is-new rs p ≡ true → (is-head-normal (p .ty) ≡ true) × (¬ List·Memᴰ p rs)
+pub new-facts : (rs : List Pred) (p : Pred) → is-new rs p ≡ true → (is-head-normal (p .ty) ≡ true) × (¬ List·Memᴰ p rs)
 new-facts rs p = go (is-head-normal (p .ty)) (contains rs p) refl
   where
     go : (a b : Bool) → contains rs p ≡ b → (a && not b) ≡ true → (a ≡ true) × (¬ List·Memᴰ p rs)
@@ -24,7 +24,7 @@ new-facts rs p = go (is-head-normal (p .ty)) (contains rs p) refl
     go false b i e = absurd (false≢true e)
 
 -- And back.
-new-of : (rs : List Pred) (p : Pred) → is-head-normal (p .ty) ≡ true → (¬ List·Memᴰ p rs) → is-new rs p ≡ true
+pub new-of : (rs : List Pred) (p : Pred) → is-head-normal (p .ty) ≡ true → (¬ List·Memᴰ p rs) → is-new rs p ≡ true
 new-of rs p h n = rw h (go (contains rs p) refl)
   where
     go : (b : Bool) → contains rs p ≡ b → not b ≡ true
@@ -55,7 +55,7 @@ pub record FirstAt (rs : List Pred) (ps : Pending) (b : Binder) : Type 0 where
   pub first : NoneBefore ps number (b .1)
 
 -- What stands in the list with one more at its end, or not.
-not-snoc : (rs : List Pred) (q p : Pred) → ¬ List·Memᴰ p rs → p ≢ q → ¬ List·Memᴰ p (rs ++ (q ∷ []))
+pub not-snoc : (rs : List Pred) (q p : Pred) → ¬ List·Memᴰ p rs → p ≢ q → ¬ List·Memᴰ p (rs ++ (q ∷ []))
 not-snoc rs q p h n m = go (List·Memᴰ·append-cases rs m)
   where
     go : List·Memᴰ p rs ⊎ List·Memᴰ p (q ∷ []) → ⊥

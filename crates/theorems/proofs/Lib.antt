@@ -75,3 +75,5 @@ pub mod Discharges
 pub mod Aliases
 pub mod FirstRows
 pub mod SubMap
+pub mod LeftRows
+pub mod FirstOf

@@ -1,12 +1,13 @@
 -- The whole of `sub_map` of generalize_binding and finalize_expr: what stands for each pending name, row by row.
-use mathlib.Core.Path.{_≡_, refl, ap, sym, _∙_}
+use mathlib.Core.Path.{_≡_, refl, ap, sym, _∙_, subst}
 use mathlib.Core.Bool.{Bool, true, false, true≢false, false≢true}
 use mathlib.Core.List.{List, [], _∷_, List·Memᴰ, List·Memᴰ·not-nil, List·Memᴰ·cases-cons, Memᴰ·cast, Memᴰ·map, Memᴰ·of-map}
 use mathlib.Core.Option.{none, some}
 use mathlib.Core.Logic.{_≢_, _⊎_, inl, inr}
-use Prim.Native.Nat.{ℕ, suc, zero}
+use Prim.Native.Nat.{ℕ, suc, zero, _<_}
+use native.Mathlib.Omega.{arith}
 use Rattle.meaning.specs.Base.{nth, keep}
-use Rattle.meaning.specs.Ast.{TyVar, DictName, Pred, Core, cdict, Binder}
+use Rattle.meaning.specs.Ast.{TyVar, DictName, dvar, Pred, Core, cdict, Binder}
 use Rattle.meaning.specs.Budget.{done}
 use Rattle.meaning.specs.Map.{Map, dicts, get}
 use Rattle.meaning.specs.Classes.{ClassEnv, resolve}
@@ -16,11 +17,14 @@ use Rattle.theorems.proofs.Says.{of-done}
 use Rattle.theorems.proofs.Tests.{some-inj, none-some}
 use Rattle.theorems.proofs.Members.{Distinct}
 use Rattle.theorems.proofs.Simplified.{simplify-says}
-use Rattle.theorems.proofs.Bound.{names-of}
+use Rattle.theorems.proofs.Bound.{names-of, NoneBound}
 use Rattle.theorems.proofs.Residuals.{Gave, Answers, left-of, reduce-splits, firsts, binders-are}
-use Rattle.theorems.proofs.RisingNames.{Rising, NotIn, DistinctNames, rising-distinct}
+use Rattle.theorems.proofs.RisingNames.{Within, Rising, NotIn, DistinctNames, rising-within, rising-distinct}
 use Rattle.theorems.proofs.Discharges.{NamesDiffer, nth-member, member-name, one-binder, discharged-absent, fills-resolved, fills-not}
 use Rattle.theorems.proofs.Aliases.{aliases-absent, aliases-else, aliases-at, removed-names, removed-absent, removed-at, simplify-sorts}
+use Rattle.theorems.proofs.FirstOf.{first-of, Leads, first-leads}
+use Rattle.theorems.proofs.NamesGeneralized.{Named}
+use Rattle.theorems.proofs.DictNames.{named-apart}
 use Rattle.theorems.proofs.FirstRows.{NoneBefore, firsts-in, firsts-out, firsts-distinct, keep-out, keep-in, keep-distinct}
 
 -- `sub_map`.
@@ -162,6 +166,20 @@ module _ (ce : ClassEnv) (ps : Pending) (differ : NamesDiffer ps) (ds : List Dis
       (λ k. false≢true (sym t ∙ keep-out f (firsts [] ps) c (removed-from ce ps differ ds answers (keep f (firsts [] ps)) (keeping-firsts f ps) rs removes c (nth-member ps i c at) k) .1))
       (λ b k e. absurd (false≢true (sym t ∙ of-pred c b e ∙ keep-out f (firsts [] ps) b k .1)))
 
+  -- The same, with the first binder of the predicate as a search finds it.
+  pub found-alias : f c ≡ true → (b : Binder) → first-of ps (c .1) ≡ some b → c .0 ≢ b .0 → get dicts (c .0) (sub-map rs (keep f (firsts [] ps)) ds ps) ≡ some (cdict (b .0))
+  found-alias t b e n =
+      let l = first-leads ps (c .1) b e in
+      row-alias t (l .number) b (l .stands) (subst (NoneBefore ps (l .number)) (sym (l .has)) (l .leads)) (sym (l .has)) (λ x. n (same l x))
+    where
+      same : (l : Leads ps (c .1) b) → i ≡ l .number → c .0 ≡ b .0
+      same l x = ap (λ (z : Binder). z .0) (some-inj c b (sym at ∙ ap (nth ps) x ∙ l .stands))
+
+  pub found-first : first-of ps (c .1) ≡ some c → NotIn (c .0) (removed-names rs) → get dicts (c .0) (sub-map rs (keep f (firsts [] ps)) ds ps) ≡ none
+  found-first e n =
+      let l = first-leads ps (c .1) c e in
+      row-first (subst (λ (k : ℕ). NoneBefore ps k (c .1)) (one-number ps differ (l .number) i c c (l .stands) at refl) (l .leads)) n
+
 -- ## from what was computed
 -- What `reduce` has given.
 pub split-of : (ce : ClassEnv) (ps : Pending) (n m : ℕ) (o : List Discharged × List Pred) → reduce ce [] (preds-of ps) n ≡ done o m
@@ -176,6 +194,41 @@ removing-of ce lo hi bs n m o h e =
     let s = of-done _ _ _ o m (simplify-says ce bs n) e in
     let t = of-done _ _ _ o m (simplify-sorts ce lo hi bs n h) e in
     record {
-      once = rising-distinct lo hi (removed-names (o .1)) (t .1);
+      once = rising-distinct lo hi (removed-names (o .1)) (t .removed-rise);
       from = λ r k. let x = s .replaced (r .0) (r .1) k in (x .0, x .1);
     }
+
+-- A kept binder's name was not removed.
+pub kept-stays : (ce : ClassEnv) (lo hi : ℕ) (bs : List Binder) (n m : ℕ) (o : List Binder × List Removed) → Rising lo hi (names-of bs) → simplify-context ce bs n ≡ done o m
+    → (b : Binder) → List·Memᴰ b (o .0) → NotIn (b .0) (removed-names (o .1))
+kept-stays ce lo hi bs n m o h e b k j = of-done _ _ _ o m (simplify-sorts ce lo hi bs n h) e .apart (b .0) (member-name (o .0) b k) j
+
+-- ## names
+-- The name of a row is within the bounds.
+pub name-at : (lo hi : ℕ) (ps : Pending) → Rising lo hi (names-of ps) → (i : ℕ) (b : Binder) → nth ps i ≡ some b → Within lo hi (b .0)
+name-at lo hi ps h i b e = rising-within lo hi (names-of ps) h (b .0) (member-name ps b (nth-member ps i b e))
+
+-- A later row has a greater number.
+pub names-order : (lo hi : ℕ) (ps : Pending) → Rising lo hi (names-of ps) → (i j : ℕ) (b c : Binder) → i < j → nth ps i ≡ some b → nth ps j ≡ some c
+    → (m k : ℕ) → b .0 ≡ dvar m → c .0 ≡ dvar k → m < k
+unfolding nth
+names-order lo hi [] h i j b c l e f m k x y = absurd (none-some b e)
+names-order lo hi (a ∷ ps) (n, d, g, r) i zero b c l e f m k x y = absurd (omega (arith, l))
+names-order lo hi (a ∷ ps) (n, d, g, r) zero (suc j) b c l e f m k x y =
+    let w = name-at (suc n) hi ps r j c f in
+    let p : m ≡ n = dvar-one m n (sym x ∙ ap (λ (z : Binder). z .0) (sym (some-inj a b e)) ∙ d) in
+    let q : k ≡ w .number = dvar-one k (w .number) (sym y ∙ w .is) in
+    let s = w .from in omega arith
+  where
+    dvar-one : (u v : ℕ) → dvar u ≡ dvar v → u ≡ v
+    dvar-one u v z = cc
+names-order lo hi (a ∷ ps) (n, d, g, r) (suc i) (suc j) b c l e f m k x y = names-order (suc n) hi ps r i j b c (omega arith) e f m k x y
+
+-- Pending names that rise differ.
+pub rising-differ : (lo hi : ℕ) (ps : Pending) → Rising lo hi (names-of ps) → NamesDiffer ps
+rising-differ lo hi ps h = rising-distinct lo hi (names-of ps) h
+
+-- No abstraction inside the term binds a name that `sub_map` replaces.
+pub sub-none-bound : (ce : ClassEnv) (lo hi : ℕ) (ps : Pending) (e : Core) → Named lo hi (names-of ps) e → (ds : List Discharged) → Answers ce (preds-of ps) ds
+    → (bs : List Binder) → Keeping ps bs → (rs : List Removed) → Removing bs rs → NoneBound (sub-map rs bs ds ps) e
+sub-none-bound ce lo hi ps e h ds a bs k rs r = named-apart lo hi (names-of ps) e h (sub-map rs bs ds ps) (sub-absent ce ps (rising-differ lo hi ps (h .rises)) ds a bs k rs r)
