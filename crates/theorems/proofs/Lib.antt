@@ -77,3 +77,4 @@ pub mod FirstRows
 pub mod SubMap
 pub mod LeftRows
 pub mod FirstOf
+pub mod SubRows

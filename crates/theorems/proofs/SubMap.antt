@@ -175,6 +175,7 @@ module _ (ce : ClassEnv) (ps : Pending) (differ : NamesDiffer ps) (ds : List Dis
       same : (l : Leads ps (c .1) b) → i ≡ l .number → c .0 ≡ b .0
       same l x = ap (λ (z : Binder). z .0) (some-inj c b (sym at ∙ ap (nth ps) x ∙ l .stands))
 
+  -- And of the first one itself.
   pub found-first : first-of ps (c .1) ≡ some c → NotIn (c .0) (removed-names rs) → get dicts (c .0) (sub-map rs (keep f (firsts [] ps)) ds ps) ≡ none
   found-first e n =
       let l = first-leads ps (c .1) c e in
