@@ -38,6 +38,7 @@ abbrev mutual
   Bound P (dict-proj e m) = Bound P e
   Bound P (dict-rec c a i) = Unit {0}
 
+  -- The same of a list of terms.
   pub BoundIn : (DictName → Type 0) → Cores → Type 0
   BoundIn P cnil = Unit {0}
   BoundIn P (e ◃ es) = Bound P e × BoundIn P es
@@ -71,6 +72,7 @@ module _ (P Q : DictName → Type 0) (w : (d : DictName) → P d → Q d) where
     bound-less (dict-proj e m) h = bound-less e h
     bound-less (dict-rec c a i) h = tt
 
+    -- The same in a list of terms.
     pub bound-in-less : (es : Cores) → BoundIn P es → BoundIn Q es
     bound-in-less cnil h = tt
     bound-in-less (e ◃ es) h = (bound-less e (h .0), bound-in-less es (h .1))
@@ -96,6 +98,7 @@ mutual
       go cnil h = tt
       go (e ◃ es) h = (tt, h)
 
+  -- Nor does a list of them.
   pub derive-all-bare : {ce : ClassEnv} {ps : List Pred} {es : Cores} → DeriveAll ce [] ps es → BoundIn (λ d. ⊥) es
   derive-all-bare none-left = tt
   derive-all-bare (one-more d ds) = (derives-bare d, derive-all-bare ds)

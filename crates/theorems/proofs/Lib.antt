@@ -71,3 +71,10 @@ pub mod Residuals
 pub mod RisingNames
 pub mod NamesGeneralized
 pub mod DictNames
+pub mod Discharges
+pub mod Aliases
+pub mod FirstRows
+pub mod SubMap
+pub mod LeftRows
+pub mod FirstOf
+pub mod SubRows

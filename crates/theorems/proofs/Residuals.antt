@@ -106,6 +106,7 @@ pub record Split (ce : ClassEnv) (ps : List Pred) (out : List Discharged × List
   pub answers : Answers ce ps (out .0)
   pub residual-is : out .1 ≡ left-of [] ps
 
+-- Whatever the steps.
 pub reduce-splits : (ce : ClassEnv) (ps : List Pred) (n : ℕ) → Says (Split ce ps) Any (reduce ce [] ps n)
 reduce-splits ce ps n = weaken _ _ _ _ (reduce ce [] ps n) (adds ce ps ([], []) n)
     (λ out r. record { answers = subst (Answers ce ps) (sym (r .discharged-are)) (r .answers); residual-is = r .residual-is }) (λ r z. z)
