@@ -3,3 +3,5 @@ pub mod Sweeps
 pub mod Loops
 pub mod Firsts
 pub mod Owns
+pub mod Aliases
+pub mod Defers
