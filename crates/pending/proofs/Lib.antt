@@ -5,3 +5,4 @@ pub mod Firsts
 pub mod Owns
 pub mod Aliases
 pub mod Defers
+pub mod Residuals
