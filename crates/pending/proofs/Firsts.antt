@@ -118,6 +118,7 @@ first-of-firsts ks (b ∷ xs) p = first-of-firsts (addFirst ks b) xs p ∙ go (h
     known (some x) f h d = first-left ks xs p f ∙ sym (first-left ks (b ∷ xs) p f)
     known none f h (yes e) = absurd (let u : holds ks (b .1) ≡ false = rw e (none-holds ks p f) in let z : _≡_ {A = ℕ} 0 1 = cc in omega arith)
     known none f h (no n) = first-right ks xs p f ∙ sym (first-right ks (b ∷ xs) p f ∙ first-there b xs p n)
+
     go : (t : Bool) → holds ks (b .1) ≡ t → firstOf (addFirst ks b ++ xs) p ≡ firstOf (ks ++ (b ∷ xs)) p
     go true h = rw (add-known ks b h) (known (firstOf ks p) refl h (same-pred (b .1) p))
     go false h = rw (add-new ks b h) (ap (λ os. firstOf os p) (append-assoc ks (b ∷ []) xs))

@@ -58,9 +58,11 @@ pending-split s (x ∷ xs) ys n = go (apply-pred s (x .1) n) (λ m. pending-spli
     cons : (q : Pred) (a : List Binder) (o : Out (List Binder)) → after (prefixed a o) (λ qs l. done ((x .0, q) ∷ qs) l) ≡ prefixed ((x .0, q) ∷ a) o
     cons q a (done zs l) = refl
     cons q a (refused e l) = refl
+
     one : (q : Pred) (o : Out (List Binder)) → after (after o (λ a m. prefixed a (apply-preds-pending s ys m))) (λ qs l. done ((x .0, q) ∷ qs) l) ≡ after (after o (λ qs l. done ((x .0, q) ∷ qs) l)) (λ a m. prefixed a (apply-preds-pending s ys m))
     one q (done a m) = cons q a (apply-preds-pending s ys m)
     one q (refused e l) = refl
+
     go : (o : Out Pred) → ((m : ℕ) → apply-preds-pending s (xs ++ ys) m ≡ after (apply-preds-pending s xs m) (λ a k. prefixed a (apply-preds-pending s ys k)))
         → after o (λ q m. after (apply-preds-pending s (xs ++ ys) m) (λ qs l. done ((x .0, q) ∷ qs) l)) ≡ after (after o (λ q m. after (apply-preds-pending s xs m) (λ qs l. done ((x .0, q) ∷ qs) l))) (λ a m. prefixed a (apply-preds-pending s ys m))
     go (done q m) ih = rw (ih m) (one q (apply-preds-pending s xs m))

@@ -1,4 +1,5 @@
 -- Each way out by its law.
+use mathlib.Core.Path.{sym, _∙_}
 use Rattle.pending.proofs.Owns.{row-gone, same-ready, other-class, other-type, same-row}
 use borrow.Author.Needs.{needs}
 use Rattle.pending.proofs.own.equal_row.Statement.{statement}
@@ -34,11 +35,11 @@ same-requires c κs = (c .before .before .before .before .before .before .before
 
 -- src/own.rt:80:9
 returns-3 : tie.Need-returns-3
-returns-3 c = same-row (c .before .before .before .before .before .before .before .before .before .before .before .pre .0) (c .before .before .before .before .before .before .before .before .before .before .before .pre .1 .1) _ _ (c .before .before .before .before .before .before .before .before .before .before .before .pre .1 .0) (c .before .before .before .before .before .before .row-at .ensures) (c .before .before .before .before .q .given .1) (c .before .before .if1 .left) ?
+returns-3 c = same-row (c .before .before .before .before .before .before .before .before .before .before .before .pre .0) (c .before .before .before .before .before .before .before .before .before .before .before .pre .1 .1) _ _ (c .before .before .before .before .before .before .before .before .before .before .before .pre .1 .0) (c .before .before .before .before .before .before .row-at .ensures) (c .before .before .before .before .q .given .1) (c .before .before .if1 .left) (sym (c .if2 .taken) ∙ c .before .same .ensures)
 
 -- src/own.rt:56:1
 returns-4 : tie.Need-returns-4
-returns-4 c = other-type (c .before .before .before .before .before .before .before .before .before .before .before .pre .0) (c .before .before .before .before .before .before .before .before .before .before .before .pre .1 .1) _ _ (c .before .before .before .before .before .before .before .before .before .before .before .pre .1 .0) (c .before .before .before .before .before .before .row-at .ensures) (c .before .before .before .before .q .given .1) ?
+returns-4 c = other-type (c .before .before .before .before .before .before .before .before .before .before .before .pre .0) (c .before .before .before .before .before .before .before .before .before .before .before .pre .1 .1) _ _ (c .before .before .before .before .before .before .before .before .before .before .before .pre .1 .0) (c .before .before .before .before .before .before .row-at .ensures) (c .before .before .before .before .q .given .1) (sym (c .if2 .left) ∙ c .before .same .ensures)
 
 pub equal-row-spec : {M : Type 1} → statement M
 equal-row-spec =

@@ -1,3 +1,5 @@
+-- The row was replaced, or what `is_own` says.
+use Rattle.pending.proofs.Defers.{late-gone, late-type, late-own}
 use borrow.Author.Needs.{needs}
 use Rattle.pending.proofs.own.is_late.Statement.{statement}
 use Rattle.pending.proofs.own.is_late.Tie as tie
@@ -20,15 +22,15 @@ enum-told c = search needs
 
 -- src/own.rt:205:9
 returns : tie.Need-returns
-returns c = ?
+returns c = late-gone _ _ _ _ (c .before .before .row-at .ensures) (c .enum-told .given .1)
 
 -- src/own.rt:207:9
 is-own-requires : tie.Need-is-own-requires
-is-own-requires c κs = ?
+is-own-requires c κs = (c .before .before .before .before .before .before .before .before .before .before .pre .names, (c .before .before .before .before .before .before .before .before .before .before .pre .scope, (c .before .before .before .before .before .before .before .before .before .before .pre .type, late-type (c .before .before .before .before .before .before .before .before .before .before .args .i) (c .before .before .before .before .before .before .before .before .before .before .pre) (c .before .before .before .row-at .ensures) (c .before .q .given .1))))
 
 -- src/own.rt:187:1
 returns-2 : tie.Need-returns-2
-returns-2 c = ?
+returns-2 c = late-own _ _ _ _ (c .before .before .before .before .row-at .ensures) (c .before .before .q .given .1) (c .is-own .ensures)
 
 pub is-late-spec : {M : Type 1} → statement M
 is-late-spec =
