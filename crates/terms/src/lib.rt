@@ -1,59 +1,21 @@
 // `subst_core` of 000 over words: dictionary names in a core term are replaced by what rows have for them.
+mod lists;
+mod rows;
+
 use apply::Applied;
-use ast::Cell;
 use cores::Part;
 use errors::Refusal;
-use pairs::Found;
-use supers::rows::Row;
-ghost use mathlib.Core.Path.{_≡_};
 ghost use mathlib.Core.List.{_++_};
 ghost use Prim.Native.Nat.{_+_, _*_, _-_, _≤_};
 ghost use lib.ListN.{length};
 ghost use Rattle.meaning.specs.Ast.{method, super, cabs, capp, clet, dict-abs, dict-app, dict-proj};
-ghost use Rattle.meaning.specs.Cores.{each-core};
 ghost use Rattle.names.specs.Names.{nameOf};
 ghost use Rattle.ast.specs.Table.{Node};
 ghost use Rattle.cores.specs.Binders.{bindersOf};
 ghost use Rattle.cores.specs.Terms.{core, cores};
-ghost use Rattle.supers.specs.Rows.{rowAt};
 ghost use Rattle.terms.specs.Plain.{plain-in};
-ghost use Rattle.terms.specs.Rows.{replacedIn, rowFor, replacementIn, ReadyTerm};
+ghost use Rattle.terms.specs.Rows.{replacedIn, ReadyTerm};
 ghost use Rattle.terms.specs.Answers.{GivesTerm, nodeOut};
-
-// The word by which row j replaces the dictionary of number d.
-fn row_for(binders: &[u64], j: usize, d: usize) -> Found
-    requires { ⌜ 3 * j + 3 ≤ length (now binders) ⌝ }
-    ensures { λ r. ⌜ r ≡ rowFor (rowAt (now (binders .entry)) j) d ⌝ }
-{
-    let q = supers::rows::row_at(binders, j);
-    match q {
-        Row::Pending(_, _, _) => Found::Nothing,
-        Row::Replaced(c, x) => {
-            if c == d {
-                return Found::At(x);
-            }
-            Found::Nothing
-        }
-    }
-}
-
-// The word by which the first of n rows replaces the dictionary of number d; e if none does.
-fn replacement(binders: &[u64], n: usize, d: usize, e: usize) -> usize
-    requires { ⌜ 3 * n ≤ length (now binders) ⌝ }
-    ensures { λ r. ⌜ r ≡ replacementIn (now (binders .entry)) 0 n d e ⌝ }
-{
-    let mut j: usize = 0;
-    while j < n {
-        let f = row_for(binders, j, d);
-        match f {
-            Found::At(x) => return x,
-            Found::Nothing => {
-                j += 1;
-            }
-        }
-    }
-    e
-}
 
 // `subst_core` of the term e with so much depth left, where the first n rows replace and nothing is hidden.
 pub fn subst_core(
@@ -83,7 +45,7 @@ pub fn subst_core(
     match p {
         Part::Var(_) => Applied::Done(e, top, l),
         Part::Dict(x) => {
-            let m = replacement(binders, n, x, e);
+            let m = rows::replacement(binders, n, x, e);
             Applied::Done(m, top, l)
         }
         Part::Context(_, _) => Applied::Done(e, top, l),
@@ -246,7 +208,7 @@ fn in_dict_app(
     let r = subst_core(base, work, binders, top, left, depth, n, f);
     match r {
         Applied::Done(m, t2, l2) => {
-            let q = in_each(base, work, binders, t2, l2, depth, n, v);
+            let q = lists::in_each(base, work, binders, t2, l2, depth, n, v);
             match q {
                 Applied::Done(m2, t3, l3) => {
                     cores::push_app(base, work, t3, m, m2);
@@ -311,43 +273,5 @@ fn in_super(
             Applied::Done(names::NODE + t2, t2 + 1, l2)
         }
         Applied::Refused(q, t2, l2) => Applied::Refused(q, t2, l2),
-    }
-}
-
-// The same at each term of the list v, left to right.
-fn in_each(
-    base: &[u64],
-    work: &mut [u64],
-    binders: &[u64],
-    top: usize,
-    left: usize,
-    depth: usize,
-    n: usize,
-    v: usize,
-) -> Applied
-    requires { ⌜ length (now base) ≤ 4 * top ⌝ }
-    requires { ⌜ ReadyTerm (now base ++ now work) (now binders) top left n v ⌝ }
-    ensures { λ r. ⌜ GivesTerm cores 0 (now (base .entry) ++ now (work .entry)) (now (base .entry) ++ now (work .exit)) top left
-        (λ ns. each-core (plain-in depth (replacedIn ns (now (base .entry) ++ now (work .entry)) (now (binders .entry)) n)) (cores ns (now (base .entry) ++ now (work .entry)) v) left) r ⌝ }
-{
-    let c = ast::cell_at(base, work, v);
-    match c {
-        Cell::Nil => Applied::Done(v, top, left),
-        Cell::Cons(a, b) => {
-            let r = subst_core(base, work, binders, top, left, depth, n, a);
-            match r {
-                Applied::Done(m, t2, l2) => {
-                    let q = in_each(base, work, binders, t2, l2, depth, n, b);
-                    match q {
-                        Applied::Done(m2, t3, l3) => {
-                            ast::push(base, work, t3, 3, m, m2);
-                            Applied::Done(names::NODE + t3, t3 + 1, l3)
-                        }
-                        Applied::Refused(u, t3, l3) => Applied::Refused(u, t3, l3),
-                    }
-                }
-                Applied::Refused(u, t2, l2) => Applied::Refused(u, t2, l2),
-            }
-        }
     }
 }
