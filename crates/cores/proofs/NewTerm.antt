@@ -6,17 +6,19 @@ use mathlib.Core.List.{List}
 use lib.ListN.{length, getD, set}
 use lib.Seq.{getD-set-same, getD-set-other}
 use borrow.Author.Tests.{lt-ltb}
-use Rattle.meaning.specs.Ast.{super, cabs, dict-app, dict-proj, dict-rec, _◃_}
+use Rattle.meaning.specs.Ast.{method, super, cint, cabs, capp, clet, dict-abs, dict-app, dict-proj, dict-rec, _◃_}
 use Rattle.names.specs.Names.{first-node, nameOf}
 use Rattle.ast.specs.Table.{shape, cell, tree, ShapeBelow, CellBelow, Table, Node, pushed}
 use Rattle.ast.proofs.Laws.{kept-tree, kept-table}
 use Rattle.ast.proofs.NewNode.{Pushed, pushed-0, pushed-1, pushed-2, pushed-kept, pushed-node, pushed-cell, length-pushed}
 use Rattle.pairs.specs.Pairs.{Stands}
 use Rattle.pairs.proofs.Frames.{stands-then, pushed-stands, put-length, put-stands}
-use Rattle.cores.specs.declared.Part.the-variants.{Abs, DictApp, Super, Rec}
+use Rattle.cores.specs.declared.Part.the-variants.{Int, Abs, App, Let, DictAbs, DictApp, Method, Super, Rec}
 use Rattle.cores.specs.Parts.{nodePart, readPart, checked, partOf, pushedFour}
+use Rattle.cores.specs.Binders.{bindersOf}
 use Rattle.cores.specs.Terms.{core, cores}
 use Rattle.cores.proofs.Parted.{part-at}
+use Rattle.cores.proofs.BinderLaws.{kept-binders}
 use Rattle.cores.proofs.TermLaws.{kept-core, kept-cores, core-of, cores-cons}
 
 module _ {w′ : List ℕ} (w : List ℕ) (top tag a b d : ℕ) (e : w′ ≡ pushedFour w top tag a b d) where
@@ -81,6 +83,18 @@ module _ {w w′ : List ℕ} {top : ℕ} (ns : List ℕ) (room : 4 * top + 4 ≤
         is = core-of {r = Abs x b} ns N (sym (four-part w top 4 x b 0 e room ∙ rw l)) ∙ ap (cabs (nameOf ns x)) (kept-core ns K X);
       }
 
+  -- A number.
+  pub push-number : (v : ℕ) → Table w top → w′ ≡ pushedFour w top 12 v 0 0 → Pushed (core ns w′) w w′ top (cint v)
+  unfolding nodePart
+  push-number v T e =
+      let N = four-node w top 12 v 0 0 e room T small tt tt in
+      record {
+        long = four-length w top 12 v 0 0 e;
+        kept = four-stands w top 12 v 0 0 e (4 * top + 4) (omega arith) .low;
+        node = N;
+        is = core-of {r = Int v} ns N (sym (four-part w top 12 v 0 0 e room));
+      }
+
   -- A superclass's dictionary in the dictionary x.
   pub push-super : {x : ℕ} (c s : ℕ) → Node w top x → w′ ≡ pushedFour w top 10 x c s → Pushed (core ns w′) w w′ top (dict-proj (core ns w x) (super (nameOf ns c) (nameOf ns s)))
   unfolding nodePart
@@ -109,7 +123,77 @@ module _ {w w′ : List ℕ} {top : ℕ} (ns : List ℕ) (room : 4 * top + 4 ≤
         is = core-of {r = Rec c t i} ns N (sym (four-part w top 11 c t i e room ∙ rw l)) ∙ ap (λ u. dict-rec (nameOf ns c) u i) (kept-tree ns K X);
       }
 
+  -- A function of a name.
+  pub push-function : {b : ℕ} (x : ℕ) → Node w top b → w′ ≡ pushedFour w top 4 x b 0 → Pushed (core ns w′) w w′ top (cabs (nameOf ns x) (core ns w b))
+  unfolding nodePart
+  push-function {b} x B e =
+      let K = four-stands w top 4 x b 0 e (4 * top + 4) (omega arith) .low in
+      let N = four-node w top 4 x b 0 e room (B .table) small tt tt in
+      let l = lt-ltb b (first-node + top) (B .below) in
+      record {
+        long = four-length w top 4 x b 0 e;
+        kept = K;
+        node = N;
+        is = core-of {r = Abs x b} ns N (sym (four-part w top 4 x b 0 e room ∙ rw l)) ∙ ap (cabs (nameOf ns x)) (kept-core ns K B);
+      }
+
+  -- A method of the dictionary x.
+  pub push-selected : {x : ℕ} (m : ℕ) → Node w top x → w′ ≡ pushedFour w top 9 x m 0 → Pushed (core ns w′) w w′ top (dict-proj (core ns w x) (method (nameOf ns m)))
+  unfolding nodePart
+  push-selected {x} m X e =
+      let K = four-stands w top 9 x m 0 e (4 * top + 4) (omega arith) .low in
+      let N = four-node w top 9 x m 0 e room (X .table) small tt tt in
+      let l = lt-ltb x (first-node + top) (X .below) in
+      record {
+        long = four-length w top 9 x m 0 e;
+        kept = K;
+        node = N;
+        is = core-of {r = Method x m} ns N (sym (four-part w top 9 x m 0 e room ∙ rw l)) ∙ ap (λ y. dict-proj y (method (nameOf ns m))) (kept-core ns K X);
+      }
+
   module _ {f l : ℕ} (F : Node w top f) (L : Node w top l) where
+    -- A term applied to a term.
+    pub push-called : w′ ≡ pushedFour w top 5 f l 0 → Pushed (core ns w′) w w′ top (capp (core ns w f) (core ns w l))
+    unfolding nodePart
+    push-called e =
+        let K = four-stands w top 5 f l 0 e (4 * top + 4) (omega arith) .low in
+        let N = four-node w top 5 f l 0 e room (F .table) small tt tt in
+        record {
+          long = four-length w top 5 f l 0 e;
+          kept = K;
+          node = N;
+          is = core-of {r = App f l} ns N (sym (four-part w top 5 f l 0 e room ∙ rw (lt-ltb f (first-node + top) (F .below), lt-ltb l (first-node + top) (L .below))))
+              ∙ rw (kept-core ns K F, kept-core ns K L);
+        }
+
+    -- A term in which a name stands for another.
+    pub push-bound : (x : ℕ) → w′ ≡ pushedFour w top 6 x f l → Pushed (core ns w′) w w′ top (clet (nameOf ns x) (core ns w f) (core ns w l))
+    unfolding nodePart
+    push-bound x e =
+        let K = four-stands w top 6 x f l e (4 * top + 4) (omega arith) .low in
+        let N = four-node w top 6 x f l e room (F .table) small tt tt in
+        record {
+          long = four-length w top 6 x f l e;
+          kept = K;
+          node = N;
+          is = core-of {r = Let x f l} ns N (sym (four-part w top 6 x f l e room ∙ rw (lt-ltb f (first-node + top) (F .below), lt-ltb l (first-node + top) (L .below))))
+              ∙ rw (kept-core ns K F, kept-core ns K L);
+        }
+
+    -- A term under binders.
+    pub push-under : w′ ≡ pushedFour w top 7 f l 0 → Pushed (core ns w′) w w′ top (dict-abs (bindersOf ns w f) (core ns w l))
+    unfolding nodePart
+    push-under e =
+        let K = four-stands w top 7 f l 0 e (4 * top + 4) (omega arith) .low in
+        let N = four-node w top 7 f l 0 e room (F .table) small tt tt in
+        record {
+          long = four-length w top 7 f l 0 e;
+          kept = K;
+          node = N;
+          is = core-of {r = DictAbs f l} ns N (sym (four-part w top 7 f l 0 e room ∙ rw (lt-ltb f (first-node + top) (F .below), lt-ltb l (first-node + top) (L .below))))
+              ∙ rw (kept-binders ns K F, kept-core ns K L);
+        }
+
     -- A dictionary applied to a list.
     pub push-applied : w′ ≡ pushedFour w top 8 f l 0 → Pushed (core ns w′) w w′ top (dict-app (core ns w f) (cores ns w l))
     unfolding nodePart

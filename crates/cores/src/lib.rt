@@ -29,11 +29,23 @@ pub enum Part {
 // The tags of the nodes that inference and resolution make.
 const LAMBDA: u64 = 4;
 
+const ABS: u64 = 4;
+
+const CALL: u64 = 5;
+
+const LET: u64 = 6;
+
+const DICT_ABS: u64 = 7;
+
 const APP: u64 = 8;
+
+const METHOD: u64 = 9;
 
 const SUPER: u64 = 10;
 
 const REC: u64 = 11;
+
+const INT: u64 = 12;
 
 // What the o-th word after the made variables says.
 fn constant_part(o: usize) -> Part
@@ -143,6 +155,15 @@ pub fn push_lambda(base: &[u64], work: &mut [u64], top: usize, x: usize, e: usiz
     push_four(base, work, top, LAMBDA, x, e, 0);
 }
 
+// Writes the node top: the number v.
+pub fn push_int(base: &[u64], work: &mut [u64], top: usize, v: usize)
+    requires { ⌜ length (now base) ≤ 4 * top ⌝ }
+    requires { ⌜ 4 * top + 4 ≤ length (now base ++ now work) ⌝ }
+    ensures { λ _. ⌜ now (base .entry) ++ now (work .exit) ≡ pushedFour (now (base .entry) ++ now (work .entry)) top 12 v 0 0 ⌝ }
+{
+    push_four(base, work, top, INT, v, 0, 0);
+}
+
 // Writes the node top: the dictionary of the superclass s in the dictionary e of the class c.
 pub fn push_proj(base: &[u64], work: &mut [u64], top: usize, e: usize, c: usize, s: usize)
     requires { ⌜ length (now base) ≤ 4 * top ⌝ }
@@ -168,4 +189,49 @@ pub fn push_app(base: &[u64], work: &mut [u64], top: usize, f: usize, l: usize)
     ensures { λ _. ⌜ now (base .entry) ++ now (work .exit) ≡ pushedFour (now (base .entry) ++ now (work .entry)) top 8 f l 0 ⌝ }
 {
     push_four(base, work, top, APP, f, l, 0);
+}
+
+// Writes the node top: the function from the name x to the term e.
+pub fn push_abs(base: &[u64], work: &mut [u64], top: usize, x: usize, e: usize)
+    requires { ⌜ length (now base) ≤ 4 * top ⌝ }
+    requires { ⌜ 4 * top + 4 ≤ length (now base ++ now work) ⌝ }
+    ensures { λ _. ⌜ now (base .entry) ++ now (work .exit) ≡ pushedFour (now (base .entry) ++ now (work .entry)) top 4 x e 0 ⌝ }
+{
+    push_four(base, work, top, ABS, x, e, 0);
+}
+
+// Writes the node top: the term f applied to the term e.
+pub fn push_call(base: &[u64], work: &mut [u64], top: usize, f: usize, e: usize)
+    requires { ⌜ length (now base) ≤ 4 * top ⌝ }
+    requires { ⌜ 4 * top + 4 ≤ length (now base ++ now work) ⌝ }
+    ensures { λ _. ⌜ now (base .entry) ++ now (work .exit) ≡ pushedFour (now (base .entry) ++ now (work .entry)) top 5 f e 0 ⌝ }
+{
+    push_four(base, work, top, CALL, f, e, 0);
+}
+
+// Writes the node top: the term f, in which the name x stands for the term e.
+pub fn push_let(base: &[u64], work: &mut [u64], top: usize, x: usize, e: usize, f: usize)
+    requires { ⌜ length (now base) ≤ 4 * top ⌝ }
+    requires { ⌜ 4 * top + 4 ≤ length (now base ++ now work) ⌝ }
+    ensures { λ _. ⌜ now (base .entry) ++ now (work .exit) ≡ pushedFour (now (base .entry) ++ now (work .entry)) top 6 x e f ⌝ }
+{
+    push_four(base, work, top, LET, x, e, f);
+}
+
+// Writes the node top: the term e under the binders of the list l.
+pub fn push_dict_abs(base: &[u64], work: &mut [u64], top: usize, l: usize, e: usize)
+    requires { ⌜ length (now base) ≤ 4 * top ⌝ }
+    requires { ⌜ 4 * top + 4 ≤ length (now base ++ now work) ⌝ }
+    ensures { λ _. ⌜ now (base .entry) ++ now (work .exit) ≡ pushedFour (now (base .entry) ++ now (work .entry)) top 7 l e 0 ⌝ }
+{
+    push_four(base, work, top, DICT_ABS, l, e, 0);
+}
+
+// Writes the node top: the method m of the dictionary e.
+pub fn push_method(base: &[u64], work: &mut [u64], top: usize, e: usize, m: usize)
+    requires { ⌜ length (now base) ≤ 4 * top ⌝ }
+    requires { ⌜ 4 * top + 4 ≤ length (now base ++ now work) ⌝ }
+    ensures { λ _. ⌜ now (base .entry) ++ now (work .exit) ≡ pushedFour (now (base .entry) ++ now (work .entry)) top 9 e m 0 ⌝ }
+{
+    push_four(base, work, top, METHOD, e, m, 0);
 }
