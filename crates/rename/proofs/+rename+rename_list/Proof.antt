@@ -43,235 +43,177 @@ abbrev rename-list-below : ℕ → In 4 rename-list-kinds.ps
 rename-list-below t =
     and 4 rename-list-kinds.ps (falls 4 rename-list-kinds.ps _<_ μ-rename-list t) rename-list.Pre
 
--- src/lib.rt:82:9
 rename-returns : (t : ℕ) → rename-lts.Need-returns (shape-at-reads.Asked, shape-at-reads.Learnt, renamed-reads.Asked, renamed-reads.Learnt, rename-list-below t, rename-list.Post, push-reads.Asked, push-reads.Learnt, rename-below t, rename.Post) (rename-at t) rename.Post
 rename-returns t c = too-deep (c .before .before .before .before .before .pre .1 .1) (c .if1 .taken)
 
--- src/lib.rt:85:9
 rename-returns-2 : (t : ℕ) → rename-lts.Need-returns-2 (shape-at-reads.Asked, shape-at-reads.Learnt, renamed-reads.Asked, renamed-reads.Learnt, rename-list-below t, rename-list.Post, push-reads.Asked, push-reads.Learnt, rename-below t, rename.Post) (rename-at t) rename.Post
 rename-returns-2 t c = no-step (c .before .before .before .before .before .before .pre .1 .1) (c .before .if1 .left) (c .if2 .taken)
 
--- src/lib.rt:87:13
 rename-sub-d : (t : ℕ) → rename-lts.Need-sub-d (shape-at-reads.Asked, shape-at-reads.Learnt, renamed-reads.Asked, renamed-reads.Learnt, rename-list-below t, rename-list.Post, push-reads.Asked, push-reads.Learnt, rename-below t, rename.Post) (rename-at t) rename.Post
 rename-sub-d t c = omega arith
 
--- src/lib.rt:88:13
 rename-sub-l : (t : ℕ) → rename-lts.Need-sub-l (shape-at-reads.Asked, shape-at-reads.Learnt, renamed-reads.Asked, renamed-reads.Learnt, rename-list-below t, rename-list.Post, push-reads.Asked, push-reads.Learnt, rename-below t, rename.Post) (rename-at t) rename.Post
 rename-sub-l t c = omega arith
 
--- src/lib.rt:89:9
 rename-shape-at-requires : (t : ℕ) → rename-lts.Need-shape-at-requires (shape-at-reads.Asked, shape-at-reads.Learnt, renamed-reads.Asked, renamed-reads.Learnt, rename-list-below t, rename-list.Post, push-reads.Asked, push-reads.Learnt, rename-below t, rename.Post) (rename-at t) rename.Post
 rename-shape-at-requires t c κs = node-room (c .before .before .before .before .before .before .before .pre .1 .1 .node)
 
--- src/lib.rt:91:20
 rename-enum-known-s : (t : ℕ) → rename-lts.Need-enum-known-s (shape-at-reads.Asked, shape-at-reads.Learnt, renamed-reads.Asked, renamed-reads.Learnt, rename-list-below t, rename-list.Post, push-reads.Asked, push-reads.Learnt, rename-below t, rename.Post) (rename-at t) rename.Post
 rename-enum-known-s t c = search needs
 
--- src/lib.rt:92:17
 rename-renamed-requires : (t : ℕ) → rename-lts.Need-renamed-requires (shape-at-reads.Asked, shape-at-reads.Learnt, renamed-reads.Asked, renamed-reads.Learnt, rename-list-below t, rename-list.Post, push-reads.Asked, push-reads.Learnt, rename-below t, rename.Post) (rename-at t) rename.Post
 rename-renamed-requires t c κs = c .before .before .before .before .before .before .before .before .before .before .before .before .pre .1 .1 .by
 
--- src/lib.rt:95:20
 rename-enum-known-s-2 : (t : ℕ) → rename-lts.Need-enum-known-s-2 (shape-at-reads.Asked, shape-at-reads.Learnt, renamed-reads.Asked, renamed-reads.Learnt, rename-list-below t, rename-list.Post, push-reads.Asked, push-reads.Learnt, rename-below t, rename.Post) (rename-at t) rename.Post
 rename-enum-known-s-2 t c = search needs
 
--- src/lib.rt:97:17
 rename-same-length : (t : ℕ) → rename-lts.Need-same-length (shape-at-reads.Asked, shape-at-reads.Learnt, renamed-reads.Asked, renamed-reads.Learnt, rename-list-below t, rename-list.Post, push-reads.Asked, push-reads.Learnt, rename-below t, rename.Post) (rename-at t) rename.Post
 rename-same-length t c = search needs
 
--- src/lib.rt:97:17
 rename-returns-3 : (t : ℕ) → rename-lts.Need-returns-3 (shape-at-reads.Asked, shape-at-reads.Learnt, renamed-reads.Asked, renamed-reads.Learnt, rename-list-below t, rename-list.Post, push-reads.Asked, push-reads.Learnt, rename-below t, rename.Post) (rename-at t) rename.Post
 rename-returns-3 t c = nullary-done (c .before .before .before .before .before .before .before .before .before .before .before .before .pre .1 .1) (c .before .before .before .before .before .before .before .if1 .left) (c .before .before .before .before .before .before .if2 .left) (c .before .before .before .before .shape-at .ensures) (c .before .before .s2 .given .1) (c .if3 .taken)
 
--- src/lib.rt:99:17
 rename-rename-list-requires : (t : ℕ) → rename-lts.Need-rename-list-requires (shape-at-reads.Asked, shape-at-reads.Learnt, renamed-reads.Asked, renamed-reads.Learnt, rename-list-below t, rename-list.Post, push-reads.Asked, push-reads.Learnt, rename-below t, rename.Post) (rename-at t) rename.Post
 rename-rename-list-requires t c κs = let k = con-child (c .before .before .before .before .before .before .before .before .before .before .before .before .before .pre .1 .1 .node) (c .before .before .before .before .before .shape-at .ensures) (c .before .before .before .s2 .given .1) in (omega arith, (c .before .before .before .before .before .before .before .before .before .before .before .before .before .pre .1 .0, ready-first (c .before .before .before .before .before .before .before .before .before .before .before .before .before .pre .1 .1) (omega arith) (k .1)))
 
--- src/lib.rt:101:31
 rename-enum-known-r : (t : ℕ) → rename-lts.Need-enum-known-r (shape-at-reads.Asked, shape-at-reads.Learnt, renamed-reads.Asked, renamed-reads.Learnt, rename-list-below t, rename-list.Post, push-reads.Asked, push-reads.Learnt, rename-below t, rename.Post) (rename-at t) rename.Post
 rename-enum-known-r t c = search needs
 
--- src/lib.rt:102:21
 rename-push-requires : (t : ℕ) → rename-lts.Need-push-requires (shape-at-reads.Asked, shape-at-reads.Learnt, renamed-reads.Asked, renamed-reads.Learnt, rename-list-below t, rename-list.Post, push-reads.Asked, push-reads.Learnt, rename-below t, rename.Post) (rename-at t) rename.Post
 rename-push-requires t c κs = let q = con-room (c .before .before .before .before .before .before .before .before .before .before .before .before .before .before .before .before .before .before .before .before .pre .1 .1) (c .before .before .before .before .before .before .before .before .before .before .before .before .before .before .before .if1 .left) (c .before .before .before .before .before .before .before .before .before .before .before .before .before .before .if2 .left) (c .before .before .before .before .before .before .before .before .before .before .before .before .shape-at .ensures) (c .before .before .before .before .before .before .before .before .before .before .s2 .given .1) (c .before .before .before .before .before .before .rename-list .ensures) (c .before .before .r .given .1) (long (c .before .before .before .before .before .before .before .before .before .before .before .before .before .before .before .before .before .before .before .before .args .base .now) (c .before .before .before .before .before .before .rename-list .last .1 .0) (c .before .before .before .before .before .before .before .before .before .before .before .before .before .before .before .before .before .before .before .before .args .work .now) (c .before .before .before .before .before .before .rename-list .kept .1 .0)) (both-fit (c .before .before .before .before .before .before .before .before .before .before .before .before .before .before .before .before .before .before .before .before .args .base .now) (c .before .before .before .before .before .before .before .before .before .before .before .before .before .before .before .before .before .before .before .before .args .work .now) (c .before .before .before .before .before .before .before .before .before .before .before .before .before .before .before .before .before .before .before .before .good .0 .0) (c .before .before .before .before .before .before .before .before .before .before .before .before .before .before .before .before .before .before .before .before .good .1 .0 .0)) in let m = q .more in let cl = c .before .before .before .before .before .before .before .before .before .before .before .before .before .before .before .before .before .before .before .before .pre .1 .0 in (omega arith, q .room)
 
--- src/lib.rt:103:35
 rename-add-t56 : (t : ℕ) → rename-lts.Need-add-t56 (shape-at-reads.Asked, shape-at-reads.Learnt, renamed-reads.Asked, renamed-reads.Learnt, rename-list-below t, rename-list.Post, push-reads.Asked, push-reads.Learnt, rename-below t, rename.Post) (rename-at t) rename.Post
 rename-add-t56 t c = let q = con-room (c .before .before .before .before .before .before .before .before .before .before .before .before .before .before .before .before .before .before .before .before .before .before .before .pre .1 .1) (c .before .before .before .before .before .before .before .before .before .before .before .before .before .before .before .before .before .before .if1 .left) (c .before .before .before .before .before .before .before .before .before .before .before .before .before .before .before .before .before .if2 .left) (c .before .before .before .before .before .before .before .before .before .before .before .before .before .before .before .shape-at .ensures) (c .before .before .before .before .before .before .before .before .before .before .before .before .before .s2 .given .1) (c .before .before .before .before .before .before .before .before .before .rename-list .ensures) (c .before .before .before .before .before .r .given .1) (long (c .before .before .before .before .before .before .before .before .before .before .before .before .before .before .before .before .before .before .before .before .before .before .before .args .base .now) (c .before .before .before .before .before .before .before .before .before .rename-list .last .1 .0) (c .before .before .before .before .before .before .before .before .before .before .before .before .before .before .before .before .before .before .before .before .before .before .before .args .work .now) (c .before .before .before .before .before .before .before .before .before .rename-list .kept .1 .0)) (both-fit (c .before .before .before .before .before .before .before .before .before .before .before .before .before .before .before .before .before .before .before .before .before .before .before .args .base .now) (c .before .before .before .before .before .before .before .before .before .before .before .before .before .before .before .before .before .before .before .before .before .before .before .args .work .now) (c .before .before .before .before .before .before .before .before .before .before .before .before .before .before .before .before .before .before .before .before .before .before .before .good .0 .0) (c .before .before .before .before .before .before .before .before .before .before .before .before .before .before .before .before .before .before .before .before .before .before .before .good .1 .0 .0)) in let s = q .small in omega arith
 
--- src/lib.rt:103:53
 rename-add-t57 : (t : ℕ) → rename-lts.Need-add-t57 (shape-at-reads.Asked, shape-at-reads.Learnt, renamed-reads.Asked, renamed-reads.Learnt, rename-list-below t, rename-list.Post, push-reads.Asked, push-reads.Learnt, rename-below t, rename.Post) (rename-at t) rename.Post
 rename-add-t57 t c = let q = con-room (c .before .before .before .before .before .before .before .before .before .before .before .before .before .before .before .before .before .before .before .before .before .before .before .pre .1 .1) (c .before .before .before .before .before .before .before .before .before .before .before .before .before .before .before .before .before .before .if1 .left) (c .before .before .before .before .before .before .before .before .before .before .before .before .before .before .before .before .before .if2 .left) (c .before .before .before .before .before .before .before .before .before .before .before .before .before .before .before .shape-at .ensures) (c .before .before .before .before .before .before .before .before .before .before .before .before .before .s2 .given .1) (c .before .before .before .before .before .before .before .before .before .rename-list .ensures) (c .before .before .before .before .before .r .given .1) (long (c .before .before .before .before .before .before .before .before .before .before .before .before .before .before .before .before .before .before .before .before .before .before .before .args .base .now) (c .before .before .before .before .before .before .before .before .before .rename-list .last .1 .0) (c .before .before .before .before .before .before .before .before .before .before .before .before .before .before .before .before .before .before .before .before .before .before .before .args .work .now) (c .before .before .before .before .before .before .before .before .before .rename-list .kept .1 .0)) (both-fit (c .before .before .before .before .before .before .before .before .before .before .before .before .before .before .before .before .before .before .before .before .before .before .before .args .base .now) (c .before .before .before .before .before .before .before .before .before .before .before .before .before .before .before .before .before .before .before .before .before .before .before .args .work .now) (c .before .before .before .before .before .before .before .before .before .before .before .before .before .before .before .before .before .before .before .before .before .before .before .good .0 .0) (c .before .before .before .before .before .before .before .before .before .before .before .before .before .before .before .before .before .before .before .before .before .before .before .good .1 .0 .0)) in let s = q .small in omega arith
 
--- src/lib.rt:105:34
 rename-enum-known-r-2 : (t : ℕ) → rename-lts.Need-enum-known-r-2 (shape-at-reads.Asked, shape-at-reads.Learnt, renamed-reads.Asked, renamed-reads.Learnt, rename-list-below t, rename-list.Post, push-reads.Asked, push-reads.Learnt, rename-below t, rename.Post) (rename-at t) rename.Post
 rename-enum-known-r-2 t c = search needs
 
--- src/lib.rt:108:22
 rename-enum-known-s-3 : (t : ℕ) → rename-lts.Need-enum-known-s-3 (shape-at-reads.Asked, shape-at-reads.Learnt, renamed-reads.Asked, renamed-reads.Learnt, rename-list-below t, rename-list.Post, push-reads.Asked, push-reads.Learnt, rename-below t, rename.Post) (rename-at t) rename.Post
 rename-enum-known-s-3 t c = search needs
 
--- src/lib.rt:109:17
 rename-rename-requires : (t : ℕ) → rename-lts.Need-rename-requires (shape-at-reads.Asked, shape-at-reads.Learnt, renamed-reads.Asked, renamed-reads.Learnt, rename-list-below t, rename-list.Post, push-reads.Asked, push-reads.Learnt, rename-below t, rename.Post) (rename-at t) rename.Post
 rename-rename-requires t c κs = let k = arrow-left (c .before .before .before .before .before .before .before .before .before .before .before .before .pre .1 .1 .node) (c .before .before .before .before .shape-at .ensures) (c .before .before .s3 .given .1) in (omega arith, (c .before .before .before .before .before .before .before .before .before .before .before .before .pre .1 .0, ready-first (c .before .before .before .before .before .before .before .before .before .before .before .before .pre .1 .1) (omega arith) (k .1)))
 
--- src/lib.rt:111:31
 rename-enum-known-r-3 : (t : ℕ) → rename-lts.Need-enum-known-r-3 (shape-at-reads.Asked, shape-at-reads.Learnt, renamed-reads.Asked, renamed-reads.Learnt, rename-list-below t, rename-list.Post, push-reads.Asked, push-reads.Learnt, rename-below t, rename.Post) (rename-at t) rename.Post
 rename-enum-known-r-3 t c = search needs
 
--- src/lib.rt:112:25
 rename-rename-requires-2 : (t : ℕ) → rename-lts.Need-rename-requires-2 (shape-at-reads.Asked, shape-at-reads.Learnt, renamed-reads.Asked, renamed-reads.Learnt, rename-list-below t, rename-list.Post, push-reads.Asked, push-reads.Learnt, rename-below t, rename.Post) (rename-at t) rename.Post
 rename-rename-requires-2 t c κs = let k = arrow-right (c .before .before .before .before .before .before .before .before .before .before .before .before .before .before .before .before .before .before .before .pre .1 .1 .node) (c .before .before .before .before .before .before .before .before .before .before .before .shape-at .ensures) (c .before .before .before .before .before .before .before .before .before .s3 .given .1) in let q = arrow-next (c .before .before .before .before .before .before .before .before .before .before .before .before .before .before .before .before .before .before .before .pre .1 .1) (c .before .before .before .before .before .before .before .before .before .before .before .before .before .before .if1 .left) (c .before .before .before .before .before .before .before .before .before .before .before .before .before .if2 .left) (c .before .before .before .before .before .before .before .before .before .before .before .shape-at .ensures) (c .before .before .before .before .before .before .before .before .before .s3 .given .1) (c .before .before .before .before .before .before .rename .ensures) (c .before .before .r3 .given .1) (long (c .before .before .before .before .before .before .before .before .before .before .before .before .before .before .before .before .before .before .before .args .base .now) (c .before .before .before .before .before .before .rename .last .1 .0) (c .before .before .before .before .before .before .before .before .before .before .before .before .before .before .before .before .before .before .before .args .work .now) (c .before .before .before .before .before .before .rename .kept .1 .0)) in let m = q .0 in let cl = c .before .before .before .before .before .before .before .before .before .before .before .before .before .before .before .before .before .before .before .pre .1 .0 in (omega arith, (omega arith, q .1))
 
--- src/lib.rt:114:39
 rename-enum-known-q : (t : ℕ) → rename-lts.Need-enum-known-q (shape-at-reads.Asked, shape-at-reads.Learnt, renamed-reads.Asked, renamed-reads.Learnt, rename-list-below t, rename-list.Post, push-reads.Asked, push-reads.Learnt, rename-below t, rename.Post) (rename-at t) rename.Post
 rename-enum-known-q t c = search needs
 
--- src/lib.rt:115:29
 rename-push-requires-2 : (t : ℕ) → rename-lts.Need-push-requires-2 (shape-at-reads.Asked, shape-at-reads.Learnt, renamed-reads.Asked, renamed-reads.Learnt, rename-list-below t, rename-list.Post, push-reads.Asked, push-reads.Learnt, rename-below t, rename.Post) (rename-at t) rename.Post
 rename-push-requires-2 t c κs = let q = arrow-room (c .before .before .before .before .before .before .before .before .before .before .before .before .before .before .before .before .before .before .before .before .before .before .before .before .before .before .pre .1 .1) (c .before .before .before .before .before .before .before .before .before .before .before .before .before .before .before .before .before .before .before .before .before .if1 .left) (c .before .before .before .before .before .before .before .before .before .before .before .before .before .before .before .before .before .before .before .before .if2 .left) (c .before .before .before .before .before .before .before .before .before .before .before .before .before .before .before .before .before .before .shape-at .ensures) (c .before .before .before .before .before .before .before .before .before .before .before .before .before .before .before .before .s3 .given .1) (c .before .before .before .before .before .before .before .before .before .before .before .before .before .rename .ensures) (c .before .before .before .before .before .before .before .before .before .r3 .given .1) (c .before .before .before .before .before .before .rename2 .ensures) (c .before .before .q .given .1) (long (c .before .before .before .before .before .before .before .before .before .before .before .before .before .before .before .before .before .before .before .before .before .before .before .before .before .before .args .base .now) (c .before .before .before .before .before .before .rename2 .last .1 .0) (c .before .before .before .before .before .before .before .before .before .before .before .before .before .before .before .before .before .before .before .before .before .before .before .before .before .before .args .work .now) (c .before .before .before .before .before .before .rename2 .kept .1 .0 ∙ c .before .before .before .before .before .before .before .before .before .before .before .before .before .rename .kept .1 .0)) (both-fit (c .before .before .before .before .before .before .before .before .before .before .before .before .before .before .before .before .before .before .before .before .before .before .before .before .before .before .args .base .now) (c .before .before .before .before .before .before .before .before .before .before .before .before .before .before .before .before .before .before .before .before .before .before .before .before .before .before .args .work .now) (c .before .before .before .before .before .before .before .before .before .before .before .before .before .before .before .before .before .before .before .before .before .before .before .before .before .before .good .0 .0) (c .before .before .before .before .before .before .before .before .before .before .before .before .before .before .before .before .before .before .before .before .before .before .before .before .before .before .good .1 .0 .0)) in let m = q .more in let cl = c .before .before .before .before .before .before .before .before .before .before .before .before .before .before .before .before .before .before .before .before .before .before .before .before .before .before .pre .1 .0 in (omega arith, q .room)
 
--- src/lib.rt:116:43
 rename-add-t67 : (t : ℕ) → rename-lts.Need-add-t67 (shape-at-reads.Asked, shape-at-reads.Learnt, renamed-reads.Asked, renamed-reads.Learnt, rename-list-below t, rename-list.Post, push-reads.Asked, push-reads.Learnt, rename-below t, rename.Post) (rename-at t) rename.Post
 rename-add-t67 t c = let q = arrow-room (c .before .before .before .before .before .before .before .before .before .before .before .before .before .before .before .before .before .before .before .before .before .before .before .before .before .before .before .before .before .pre .1 .1) (c .before .before .before .before .before .before .before .before .before .before .before .before .before .before .before .before .before .before .before .before .before .before .before .before .if1 .left) (c .before .before .before .before .before .before .before .before .before .before .before .before .before .before .before .before .before .before .before .before .before .before .before .if2 .left) (c .before .before .before .before .before .before .before .before .before .before .before .before .before .before .before .before .before .before .before .before .before .shape-at .ensures) (c .before .before .before .before .before .before .before .before .before .before .before .before .before .before .before .before .before .before .before .s3 .given .1) (c .before .before .before .before .before .before .before .before .before .before .before .before .before .before .before .before .rename .ensures) (c .before .before .before .before .before .before .before .before .before .before .before .before .r3 .given .1) (c .before .before .before .before .before .before .before .before .before .rename2 .ensures) (c .before .before .before .before .before .q .given .1) (long (c .before .before .before .before .before .before .before .before .before .before .before .before .before .before .before .before .before .before .before .before .before .before .before .before .before .before .before .before .before .args .base .now) (c .before .before .before .before .before .before .before .before .before .rename2 .last .1 .0) (c .before .before .before .before .before .before .before .before .before .before .before .before .before .before .before .before .before .before .before .before .before .before .before .before .before .before .before .before .before .args .work .now) (c .before .before .before .before .before .before .before .before .before .rename2 .kept .1 .0 ∙ c .before .before .before .before .before .before .before .before .before .before .before .before .before .before .before .before .rename .kept .1 .0)) (both-fit (c .before .before .before .before .before .before .before .before .before .before .before .before .before .before .before .before .before .before .before .before .before .before .before .before .before .before .before .before .before .args .base .now) (c .before .before .before .before .before .before .before .before .before .before .before .before .before .before .before .before .before .before .before .before .before .before .before .before .before .before .before .before .before .args .work .now) (c .before .before .before .before .before .before .before .before .before .before .before .before .before .before .before .before .before .before .before .before .before .before .before .before .before .before .before .before .before .good .0 .0) (c .before .before .before .before .before .before .before .before .before .before .before .before .before .before .before .before .before .before .before .before .before .before .before .before .before .before .before .before .before .good .1 .0 .0)) in let s = q .small in omega arith
 
--- src/lib.rt:116:61
 rename-add-t68 : (t : ℕ) → rename-lts.Need-add-t68 (shape-at-reads.Asked, shape-at-reads.Learnt, renamed-reads.Asked, renamed-reads.Learnt, rename-list-below t, rename-list.Post, push-reads.Asked, push-reads.Learnt, rename-below t, rename.Post) (rename-at t) rename.Post
 rename-add-t68 t c = let q = arrow-room (c .before .before .before .before .before .before .before .before .before .before .before .before .before .before .before .before .before .before .before .before .before .before .before .before .before .before .before .before .before .pre .1 .1) (c .before .before .before .before .before .before .before .before .before .before .before .before .before .before .before .before .before .before .before .before .before .before .before .before .if1 .left) (c .before .before .before .before .before .before .before .before .before .before .before .before .before .before .before .before .before .before .before .before .before .before .before .if2 .left) (c .before .before .before .before .before .before .before .before .before .before .before .before .before .before .before .before .before .before .before .before .before .shape-at .ensures) (c .before .before .before .before .before .before .before .before .before .before .before .before .before .before .before .before .before .before .before .s3 .given .1) (c .before .before .before .before .before .before .before .before .before .before .before .before .before .before .before .before .rename .ensures) (c .before .before .before .before .before .before .before .before .before .before .before .before .r3 .given .1) (c .before .before .before .before .before .before .before .before .before .rename2 .ensures) (c .before .before .before .before .before .q .given .1) (long (c .before .before .before .before .before .before .before .before .before .before .before .before .before .before .before .before .before .before .before .before .before .before .before .before .before .before .before .before .before .args .base .now) (c .before .before .before .before .before .before .before .before .before .rename2 .last .1 .0) (c .before .before .before .before .before .before .before .before .before .before .before .before .before .before .before .before .before .before .before .before .before .before .before .before .before .before .before .before .before .args .work .now) (c .before .before .before .before .before .before .before .before .before .rename2 .kept .1 .0 ∙ c .before .before .before .before .before .before .before .before .before .before .before .before .before .before .before .before .rename .kept .1 .0)) (both-fit (c .before .before .before .before .before .before .before .before .before .before .before .before .before .before .before .before .before .before .before .before .before .before .before .before .before .before .before .before .before .args .base .now) (c .before .before .before .before .before .before .before .before .before .before .before .before .before .before .before .before .before .before .before .before .before .before .before .before .before .before .before .before .before .args .work .now) (c .before .before .before .before .before .before .before .before .before .before .before .before .before .before .before .before .before .before .before .before .before .before .before .before .before .before .before .before .before .good .0 .0) (c .before .before .before .before .before .before .before .before .before .before .before .before .before .before .before .before .before .before .before .before .before .before .before .before .before .before .before .before .before .good .1 .0 .0)) in let s = q .small in omega arith
 
--- src/lib.rt:118:42
 rename-enum-known-q-2 : (t : ℕ) → rename-lts.Need-enum-known-q-2 (shape-at-reads.Asked, shape-at-reads.Learnt, renamed-reads.Asked, renamed-reads.Learnt, rename-list-below t, rename-list.Post, push-reads.Asked, push-reads.Learnt, rename-below t, rename.Post) (rename-at t) rename.Post
 rename-enum-known-q-2 t c = search needs
 
--- src/lib.rt:121:34
 rename-enum-known-r-4 : (t : ℕ) → rename-lts.Need-enum-known-r-4 (shape-at-reads.Asked, shape-at-reads.Learnt, renamed-reads.Asked, renamed-reads.Learnt, rename-list-below t, rename-list.Post, push-reads.Asked, push-reads.Learnt, rename-below t, rename.Post) (rename-at t) rename.Post
 rename-enum-known-r-4 t c = search needs
 
--- src/lib.rt:65:1
 rename-same-length-2 : (t : ℕ) → rename-lts.Need-same-length-2 (shape-at-reads.Asked, shape-at-reads.Learnt, renamed-reads.Asked, renamed-reads.Learnt, rename-list-below t, rename-list.Post, push-reads.Asked, push-reads.Learnt, rename-below t, rename.Post) (rename-at t) rename.Post
 rename-same-length-2 t c = search needs
 
--- src/lib.rt:65:1
 rename-returns-4 : (t : ℕ) → rename-lts.Need-returns-4 (shape-at-reads.Asked, shape-at-reads.Learnt, renamed-reads.Asked, renamed-reads.Learnt, rename-list-below t, rename-list.Post, push-reads.Asked, push-reads.Learnt, rename-below t, rename.Post) (rename-at t) rename.Post
 rename-returns-4 t c = var-done (c .before .before .before .before .before .before .before .before .before .before .before .before .before .pre .1 .1) (c .before .before .before .before .before .before .before .before .if1 .left) (c .before .before .before .before .before .before .before .if2 .left) (c .before .before .before .before .before .shape-at .ensures) (c .before .before .before .s .given .1) (c .renamed .ensures)
 
--- src/lib.rt:65:1
 rename-same-length-3 : (t : ℕ) → rename-lts.Need-same-length-3 (shape-at-reads.Asked, shape-at-reads.Learnt, renamed-reads.Asked, renamed-reads.Learnt, rename-list-below t, rename-list.Post, push-reads.Asked, push-reads.Learnt, rename-below t, rename.Post) (rename-at t) rename.Post
 rename-same-length-3 t c = search needs
 
--- src/lib.rt:65:1
 rename-returns-5 : (t : ℕ) → rename-lts.Need-returns-5 (shape-at-reads.Asked, shape-at-reads.Learnt, renamed-reads.Asked, renamed-reads.Learnt, rename-list-below t, rename-list.Post, push-reads.Asked, push-reads.Learnt, rename-below t, rename.Post) (rename-at t) rename.Post
 rename-returns-5 t c = con-done (c .before .before .before .before .before .before .before .before .before .before .before .before .before .before .before .before .before .before .before .before .before .before .before .pre .1 .1) (c .before .before .before .before .before .before .before .before .before .before .before .before .before .before .before .before .before .before .if1 .left) (c .before .before .before .before .before .before .before .before .before .before .before .before .before .before .before .before .before .if2 .left) (c .before .before .before .before .before .before .before .before .before .before .before .before .before .before .before .shape-at .ensures) (c .before .before .before .before .before .before .before .before .before .before .before .before .before .s2 .given .1) (c .before .before .before .before .before .before .before .before .before .rename-list .ensures) (c .before .before .before .before .before .r .given .1) (long (c .before .before .before .before .before .before .before .before .before .before .before .before .before .before .before .before .before .before .before .before .before .before .before .args .base .now) (c .before .before .before .before .before .before .before .before .before .rename-list .last .1 .0) (c .before .before .before .before .before .before .before .before .before .before .before .before .before .before .before .before .before .before .before .before .before .before .before .args .work .now) (c .before .before .before .before .before .before .before .before .before .rename-list .kept .1 .0)) (both-fit (c .before .before .before .before .before .before .before .before .before .before .before .before .before .before .before .before .before .before .before .before .before .before .before .args .base .now) (c .before .before .before .before .before .before .before .before .before .before .before .before .before .before .before .before .before .before .before .before .before .before .before .args .work .now) (c .before .before .before .before .before .before .before .before .before .before .before .before .before .before .before .before .before .before .before .before .before .before .before .good .0 .0) (c .before .before .before .before .before .before .before .before .before .before .before .before .before .before .before .before .before .before .before .before .before .before .before .good .1 .0 .0)) (c .before .before .push .ensures)
 
--- src/lib.rt:65:1
 rename-same-length-4 : (t : ℕ) → rename-lts.Need-same-length-4 (shape-at-reads.Asked, shape-at-reads.Learnt, renamed-reads.Asked, renamed-reads.Learnt, rename-list-below t, rename-list.Post, push-reads.Asked, push-reads.Learnt, rename-below t, rename.Post) (rename-at t) rename.Post
 rename-same-length-4 t c = search needs
 
--- src/lib.rt:65:1
 rename-returns-6 : (t : ℕ) → rename-lts.Need-returns-6 (shape-at-reads.Asked, shape-at-reads.Learnt, renamed-reads.Asked, renamed-reads.Learnt, rename-list-below t, rename-list.Post, push-reads.Asked, push-reads.Learnt, rename-below t, rename.Post) (rename-at t) rename.Post
 rename-returns-6 t c = con-refused (c .before .before .before .before .before .before .before .before .before .before .before .before .before .before .before .before .before .before .before .pre .1 .1) (c .before .before .before .before .before .before .before .before .before .before .before .before .before .before .if1 .left) (c .before .before .before .before .before .before .before .before .before .before .before .before .before .if2 .left) (c .before .before .before .before .before .before .before .before .before .before .before .shape-at .ensures) (c .before .before .before .before .before .before .before .before .before .s2 .given .1) (c .before .before .before .before .before .rename-list .ensures) (c .before .r2 .given .1)
 
--- src/lib.rt:65:1
 rename-same-length-5 : (t : ℕ) → rename-lts.Need-same-length-5 (shape-at-reads.Asked, shape-at-reads.Learnt, renamed-reads.Asked, renamed-reads.Learnt, rename-list-below t, rename-list.Post, push-reads.Asked, push-reads.Learnt, rename-below t, rename.Post) (rename-at t) rename.Post
 rename-same-length-5 t c = search needs
 
--- src/lib.rt:65:1
 rename-returns-7 : (t : ℕ) → rename-lts.Need-returns-7 (shape-at-reads.Asked, shape-at-reads.Learnt, renamed-reads.Asked, renamed-reads.Learnt, rename-list-below t, rename-list.Post, push-reads.Asked, push-reads.Learnt, rename-below t, rename.Post) (rename-at t) rename.Post
 rename-returns-7 t c = arrow-done (c .before .before .before .before .before .before .before .before .before .before .before .before .before .before .before .before .before .before .before .before .before .before .before .before .before .before .before .before .before .pre .1 .1) (c .before .before .before .before .before .before .before .before .before .before .before .before .before .before .before .before .before .before .before .before .before .before .before .before .if1 .left) (c .before .before .before .before .before .before .before .before .before .before .before .before .before .before .before .before .before .before .before .before .before .before .before .if2 .left) (c .before .before .before .before .before .before .before .before .before .before .before .before .before .before .before .before .before .before .before .before .before .shape-at .ensures) (c .before .before .before .before .before .before .before .before .before .before .before .before .before .before .before .before .before .before .before .s3 .given .1) (c .before .before .before .before .before .before .before .before .before .before .before .before .before .before .before .before .rename .ensures) (c .before .before .before .before .before .before .before .before .before .before .before .before .r3 .given .1) (c .before .before .before .before .before .before .before .before .before .rename2 .ensures) (c .before .before .before .before .before .q .given .1) (long (c .before .before .before .before .before .before .before .before .before .before .before .before .before .before .before .before .before .before .before .before .before .before .before .before .before .before .before .before .before .args .base .now) (c .before .before .before .before .before .before .before .before .before .rename2 .last .1 .0) (c .before .before .before .before .before .before .before .before .before .before .before .before .before .before .before .before .before .before .before .before .before .before .before .before .before .before .before .before .before .args .work .now) (c .before .before .before .before .before .before .before .before .before .rename2 .kept .1 .0 ∙ c .before .before .before .before .before .before .before .before .before .before .before .before .before .before .before .before .rename .kept .1 .0)) (both-fit (c .before .before .before .before .before .before .before .before .before .before .before .before .before .before .before .before .before .before .before .before .before .before .before .before .before .before .before .before .before .args .base .now) (c .before .before .before .before .before .before .before .before .before .before .before .before .before .before .before .before .before .before .before .before .before .before .before .before .before .before .before .before .before .args .work .now) (c .before .before .before .before .before .before .before .before .before .before .before .before .before .before .before .before .before .before .before .before .before .before .before .before .before .before .before .before .before .good .0 .0) (c .before .before .before .before .before .before .before .before .before .before .before .before .before .before .before .before .before .before .before .before .before .before .before .before .before .before .before .before .before .good .1 .0 .0)) (c .before .before .push2 .ensures)
 
--- src/lib.rt:65:1
 rename-same-length-6 : (t : ℕ) → rename-lts.Need-same-length-6 (shape-at-reads.Asked, shape-at-reads.Learnt, renamed-reads.Asked, renamed-reads.Learnt, rename-list-below t, rename-list.Post, push-reads.Asked, push-reads.Learnt, rename-below t, rename.Post) (rename-at t) rename.Post
 rename-same-length-6 t c = search needs
 
--- src/lib.rt:65:1
 rename-returns-8 : (t : ℕ) → rename-lts.Need-returns-8 (shape-at-reads.Asked, shape-at-reads.Learnt, renamed-reads.Asked, renamed-reads.Learnt, rename-list-below t, rename-list.Post, push-reads.Asked, push-reads.Learnt, rename-below t, rename.Post) (rename-at t) rename.Post
 rename-returns-8 t c = arrow-refused-2 (c .before .before .before .before .before .before .before .before .before .before .before .before .before .before .before .before .before .before .before .before .before .before .before .before .before .pre .1 .1) (c .before .before .before .before .before .before .before .before .before .before .before .before .before .before .before .before .before .before .before .before .if1 .left) (c .before .before .before .before .before .before .before .before .before .before .before .before .before .before .before .before .before .before .before .if2 .left) (c .before .before .before .before .before .before .before .before .before .before .before .before .before .before .before .before .before .shape-at .ensures) (c .before .before .before .before .before .before .before .before .before .before .before .before .before .before .before .s3 .given .1) (c .before .before .before .before .before .before .before .before .before .before .before .before .rename .ensures) (c .before .before .before .before .before .before .before .before .r3 .given .1) (c .before .before .before .before .before .rename2 .ensures) (c .before .q2 .given .1)
 
--- src/lib.rt:65:1
 rename-same-length-7 : (t : ℕ) → rename-lts.Need-same-length-7 (shape-at-reads.Asked, shape-at-reads.Learnt, renamed-reads.Asked, renamed-reads.Learnt, rename-list-below t, rename-list.Post, push-reads.Asked, push-reads.Learnt, rename-below t, rename.Post) (rename-at t) rename.Post
 rename-same-length-7 t c = search needs
 
--- src/lib.rt:65:1
 rename-returns-9 : (t : ℕ) → rename-lts.Need-returns-9 (shape-at-reads.Asked, shape-at-reads.Learnt, renamed-reads.Asked, renamed-reads.Learnt, rename-list-below t, rename-list.Post, push-reads.Asked, push-reads.Learnt, rename-below t, rename.Post) (rename-at t) rename.Post
 rename-returns-9 t c = arrow-refused (c .before .before .before .before .before .before .before .before .before .before .before .before .before .before .before .before .before .before .pre .1 .1) (c .before .before .before .before .before .before .before .before .before .before .before .before .before .if1 .left) (c .before .before .before .before .before .before .before .before .before .before .before .before .if2 .left) (c .before .before .before .before .before .before .before .before .before .before .shape-at .ensures) (c .before .before .before .before .before .before .before .before .s3 .given .1) (c .before .before .before .before .before .rename .ensures) (c .before .r4 .given .1)
 
--- src/lib.rt:144:9
 rename-list-cell-at-requires : (t : ℕ) → rename-list-lts.Need-cell-at-requires (cell-at-reads.Asked, cell-at-reads.Learnt, rename-below t, rename.Post, rename-list-below t, rename-list.Post, push-reads.Asked, push-reads.Learnt) (rename-list-at t) rename-list.Post
 rename-list-cell-at-requires t c κs = node-room (c .before .before .before .before .before .pre .1 .1 .node)
 
--- src/lib.rt:146:22
 rename-list-enum-told : (t : ℕ) → rename-list-lts.Need-enum-told (cell-at-reads.Asked, cell-at-reads.Learnt, rename-below t, rename.Post, rename-list-below t, rename-list.Post, push-reads.Asked, push-reads.Learnt) (rename-list-at t) rename-list.Post
 rename-list-enum-told t c = search needs
 
--- src/lib.rt:147:20
 rename-list-enum-known-c : (t : ℕ) → rename-list-lts.Need-enum-known-c (cell-at-reads.Asked, cell-at-reads.Learnt, rename-below t, rename.Post, rename-list-below t, rename-list.Post, push-reads.Asked, push-reads.Learnt) (rename-list-at t) rename-list.Post
 rename-list-enum-known-c t c = search needs
 
--- src/lib.rt:148:17
 rename-list-rename-requires : (t : ℕ) → rename-list-lts.Need-rename-requires (cell-at-reads.Asked, cell-at-reads.Learnt, rename-below t, rename.Post, rename-list-below t, rename-list.Post, push-reads.Asked, push-reads.Learnt) (rename-list-at t) rename-list.Post
 rename-list-rename-requires t c κs = let k = cons-head (c .before .before .before .before .before .before .before .before .before .before .pre .1 .1 .node) (c .before .before .before .before .cell-at .ensures) (c .before .before .c .given .1) in (omega arith, (c .before .before .before .before .before .before .before .before .before .before .pre .1 .0, ready-first (c .before .before .before .before .before .before .before .before .before .before .pre .1 .1) (omega arith) (k .1)))
 
--- src/lib.rt:150:31
 rename-list-enum-known-r : (t : ℕ) → rename-list-lts.Need-enum-known-r (cell-at-reads.Asked, cell-at-reads.Learnt, rename-below t, rename.Post, rename-list-below t, rename-list.Post, push-reads.Asked, push-reads.Learnt) (rename-list-at t) rename-list.Post
 rename-list-enum-known-r t c = search needs
 
--- src/lib.rt:151:25
 rename-list-rename-list-requires : (t : ℕ) → rename-list-lts.Need-rename-list-requires (cell-at-reads.Asked, cell-at-reads.Learnt, rename-below t, rename.Post, rename-list-below t, rename-list.Post, push-reads.Asked, push-reads.Learnt) (rename-list-at t) rename-list.Post
 rename-list-rename-list-requires t c κs = let k = cons-tail (c .before .before .before .before .before .before .before .before .before .before .before .before .before .before .before .before .before .pre .1 .1 .node) (c .before .before .before .before .before .before .before .before .before .before .before .cell-at .ensures) (c .before .before .before .before .before .before .before .before .before .c .given .1) in let q = cons-next _ (c .before .before .before .before .before .before .before .before .before .before .before .before .before .before .before .before .before .pre .1 .1) (c .before .before .before .before .before .before .before .before .before .before .before .cell-at .ensures) (c .before .before .before .before .before .before .before .before .before .c .given .1) (c .before .before .before .before .before .before .rename .ensures) (c .before .before .r .given .1) (long (c .before .before .before .before .before .before .before .before .before .before .before .before .before .before .before .before .before .args .base .now) (c .before .before .before .before .before .before .rename .last .1 .0) (c .before .before .before .before .before .before .before .before .before .before .before .before .before .before .before .before .before .args .work .now) (c .before .before .before .before .before .before .rename .kept .1 .0)) in let m = q .0 in let cl = c .before .before .before .before .before .before .before .before .before .before .before .before .before .before .before .before .before .pre .1 .0 in (omega arith, (omega arith, q .1))
 
--- src/lib.rt:153:39
 rename-list-enum-known-q : (t : ℕ) → rename-list-lts.Need-enum-known-q (cell-at-reads.Asked, cell-at-reads.Learnt, rename-below t, rename.Post, rename-list-below t, rename-list.Post, push-reads.Asked, push-reads.Learnt) (rename-list-at t) rename-list.Post
 rename-list-enum-known-q t c = search needs
 
--- src/lib.rt:154:29
 rename-list-push-requires : (t : ℕ) → rename-list-lts.Need-push-requires (cell-at-reads.Asked, cell-at-reads.Learnt, rename-below t, rename.Post, rename-list-below t, rename-list.Post, push-reads.Asked, push-reads.Learnt) (rename-list-at t) rename-list.Post
 rename-list-push-requires t c κs = let q = cons-room _ (c .before .before .before .before .before .before .before .before .before .before .before .before .before .before .before .before .before .before .before .before .before .before .before .before .pre .1 .1) (c .before .before .before .before .before .before .before .before .before .before .before .before .before .before .before .before .before .before .cell-at .ensures) (c .before .before .before .before .before .before .before .before .before .before .before .before .before .before .before .before .c .given .1) (c .before .before .before .before .before .before .before .before .before .before .before .before .before .rename .ensures) (c .before .before .before .before .before .before .before .before .before .r .given .1) (c .before .before .before .before .before .before .rename-list .ensures) (c .before .before .q .given .1) (long (c .before .before .before .before .before .before .before .before .before .before .before .before .before .before .before .before .before .before .before .before .before .before .before .before .args .base .now) (c .before .before .before .before .before .before .rename-list .last .1 .0) (c .before .before .before .before .before .before .before .before .before .before .before .before .before .before .before .before .before .before .before .before .before .before .before .before .args .work .now) (c .before .before .before .before .before .before .rename-list .kept .1 .0 ∙ c .before .before .before .before .before .before .before .before .before .before .before .before .before .rename .kept .1 .0)) (both-fit (c .before .before .before .before .before .before .before .before .before .before .before .before .before .before .before .before .before .before .before .before .before .before .before .before .args .base .now) (c .before .before .before .before .before .before .before .before .before .before .before .before .before .before .before .before .before .before .before .before .before .before .before .before .args .work .now) (c .before .before .before .before .before .before .before .before .before .before .before .before .before .before .before .before .before .before .before .before .before .before .before .before .good .0 .0) (c .before .before .before .before .before .before .before .before .before .before .before .before .before .before .before .before .before .before .before .before .before .before .before .before .good .1 .0 .0)) in let m = q .more in let cl = c .before .before .before .before .before .before .before .before .before .before .before .before .before .before .before .before .before .before .before .before .before .before .before .before .pre .1 .0 in (omega arith, q .room)
 
--- src/lib.rt:155:43
 rename-list-add-t40 : (t : ℕ) → rename-list-lts.Need-add-t40 (cell-at-reads.Asked, cell-at-reads.Learnt, rename-below t, rename.Post, rename-list-below t, rename-list.Post, push-reads.Asked, push-reads.Learnt) (rename-list-at t) rename-list.Post
 rename-list-add-t40 t c = let q = cons-room _ (c .before .before .before .before .before .before .before .before .before .before .before .before .before .before .before .before .before .before .before .before .before .before .before .before .before .before .before .pre .1 .1) (c .before .before .before .before .before .before .before .before .before .before .before .before .before .before .before .before .before .before .before .before .before .cell-at .ensures) (c .before .before .before .before .before .before .before .before .before .before .before .before .before .before .before .before .before .before .before .c .given .1) (c .before .before .before .before .before .before .before .before .before .before .before .before .before .before .before .before .rename .ensures) (c .before .before .before .before .before .before .before .before .before .before .before .before .r .given .1) (c .before .before .before .before .before .before .before .before .before .rename-list .ensures) (c .before .before .before .before .before .q .given .1) (long (c .before .before .before .before .before .before .before .before .before .before .before .before .before .before .before .before .before .before .before .before .before .before .before .before .before .before .before .args .base .now) (c .before .before .before .before .before .before .before .before .before .rename-list .last .1 .0) (c .before .before .before .before .before .before .before .before .before .before .before .before .before .before .before .before .before .before .before .before .before .before .before .before .before .before .before .args .work .now) (c .before .before .before .before .before .before .before .before .before .rename-list .kept .1 .0 ∙ c .before .before .before .before .before .before .before .before .before .before .before .before .before .before .before .before .rename .kept .1 .0)) (both-fit (c .before .before .before .before .before .before .before .before .before .before .before .before .before .before .before .before .before .before .before .before .before .before .before .before .before .before .before .args .base .now) (c .before .before .before .before .before .before .before .before .before .before .before .before .before .before .before .before .before .before .before .before .before .before .before .before .before .before .before .args .work .now) (c .before .before .before .before .before .before .before .before .before .before .before .before .before .before .before .before .before .before .before .before .before .before .before .before .before .before .before .good .0 .0) (c .before .before .before .before .before .before .before .before .before .before .before .before .before .before .before .before .before .before .before .before .before .before .before .before .before .before .before .good .1 .0 .0)) in let s = q .small in omega arith
 
--- src/lib.rt:155:61
 rename-list-add-t41 : (t : ℕ) → rename-list-lts.Need-add-t41 (cell-at-reads.Asked, cell-at-reads.Learnt, rename-below t, rename.Post, rename-list-below t, rename-list.Post, push-reads.Asked, push-reads.Learnt) (rename-list-at t) rename-list.Post
 rename-list-add-t41 t c = let q = cons-room _ (c .before .before .before .before .before .before .before .before .before .before .before .before .before .before .before .before .before .before .before .before .before .before .before .before .before .before .before .pre .1 .1) (c .before .before .before .before .before .before .before .before .before .before .before .before .before .before .before .before .before .before .before .before .before .cell-at .ensures) (c .before .before .before .before .before .before .before .before .before .before .before .before .before .before .before .before .before .before .before .c .given .1) (c .before .before .before .before .before .before .before .before .before .before .before .before .before .before .before .before .rename .ensures) (c .before .before .before .before .before .before .before .before .before .before .before .before .r .given .1) (c .before .before .before .before .before .before .before .before .before .rename-list .ensures) (c .before .before .before .before .before .q .given .1) (long (c .before .before .before .before .before .before .before .before .before .before .before .before .before .before .before .before .before .before .before .before .before .before .before .before .before .before .before .args .base .now) (c .before .before .before .before .before .before .before .before .before .rename-list .last .1 .0) (c .before .before .before .before .before .before .before .before .before .before .before .before .before .before .before .before .before .before .before .before .before .before .before .before .before .before .before .args .work .now) (c .before .before .before .before .before .before .before .before .before .rename-list .kept .1 .0 ∙ c .before .before .before .before .before .before .before .before .before .before .before .before .before .before .before .before .rename .kept .1 .0)) (both-fit (c .before .before .before .before .before .before .before .before .before .before .before .before .before .before .before .before .before .before .before .before .before .before .before .before .before .before .before .args .base .now) (c .before .before .before .before .before .before .before .before .before .before .before .before .before .before .before .before .before .before .before .before .before .before .before .before .before .before .before .args .work .now) (c .before .before .before .before .before .before .before .before .before .before .before .before .before .before .before .before .before .before .before .before .before .before .before .before .before .before .before .good .0 .0) (c .before .before .before .before .before .before .before .before .before .before .before .before .before .before .before .before .before .before .before .before .before .before .before .before .before .before .before .good .1 .0 .0)) in let s = q .small in omega arith
 
--- src/lib.rt:157:42
 rename-list-enum-known-q-2 : (t : ℕ) → rename-list-lts.Need-enum-known-q-2 (cell-at-reads.Asked, cell-at-reads.Learnt, rename-below t, rename.Post, rename-list-below t, rename-list.Post, push-reads.Asked, push-reads.Learnt) (rename-list-at t) rename-list.Post
 rename-list-enum-known-q-2 t c = search needs
 
--- src/lib.rt:160:34
 rename-list-enum-known-r-2 : (t : ℕ) → rename-list-lts.Need-enum-known-r-2 (cell-at-reads.Asked, cell-at-reads.Learnt, rename-below t, rename.Post, rename-list-below t, rename-list.Post, push-reads.Asked, push-reads.Learnt) (rename-list-at t) rename-list.Post
 rename-list-enum-known-r-2 t c = search needs
 
--- src/lib.rt:128:1
 rename-list-same-length : (t : ℕ) → rename-list-lts.Need-same-length (cell-at-reads.Asked, cell-at-reads.Learnt, rename-below t, rename.Post, rename-list-below t, rename-list.Post, push-reads.Asked, push-reads.Learnt) (rename-list-at t) rename-list.Post
 rename-list-same-length t c = search needs
 
--- src/lib.rt:128:1
 rename-list-returns : (t : ℕ) → rename-list-lts.Need-returns (cell-at-reads.Asked, cell-at-reads.Learnt, rename-below t, rename.Post, rename-list-below t, rename-list.Post, push-reads.Asked, push-reads.Learnt) (rename-list-at t) rename-list.Post
 rename-list-returns t c = nil-done _ (c .before .before .before .before .before .before .before .before .pre .1 .1) (c .before .before .cell-at .ensures) (c .enum-told .given .1)
 
--- src/lib.rt:128:1
 rename-list-same-length-2 : (t : ℕ) → rename-list-lts.Need-same-length-2 (cell-at-reads.Asked, cell-at-reads.Learnt, rename-below t, rename.Post, rename-list-below t, rename-list.Post, push-reads.Asked, push-reads.Learnt) (rename-list-at t) rename-list.Post
 rename-list-same-length-2 t c = search needs
 
--- src/lib.rt:128:1
 rename-list-returns-2 : (t : ℕ) → rename-list-lts.Need-returns-2 (cell-at-reads.Asked, cell-at-reads.Learnt, rename-below t, rename.Post, rename-list-below t, rename-list.Post, push-reads.Asked, push-reads.Learnt) (rename-list-at t) rename-list.Post
 rename-list-returns-2 t c = cons-done _ (c .before .before .before .before .before .before .before .before .before .before .before .before .before .before .before .before .before .before .before .before .before .before .before .before .before .before .before .pre .1 .1) (c .before .before .before .before .before .before .before .before .before .before .before .before .before .before .before .before .before .before .before .before .before .cell-at .ensures) (c .before .before .before .before .before .before .before .before .before .before .before .before .before .before .before .before .before .before .before .c .given .1) (c .before .before .before .before .before .before .before .before .before .before .before .before .before .before .before .before .rename .ensures) (c .before .before .before .before .before .before .before .before .before .before .before .before .r .given .1) (c .before .before .before .before .before .before .before .before .before .rename-list .ensures) (c .before .before .before .before .before .q .given .1) (long (c .before .before .before .before .before .before .before .before .before .before .before .before .before .before .before .before .before .before .before .before .before .before .before .before .before .before .before .args .base .now) (c .before .before .before .before .before .before .before .before .before .rename-list .last .1 .0) (c .before .before .before .before .before .before .before .before .before .before .before .before .before .before .before .before .before .before .before .before .before .before .before .before .before .before .before .args .work .now) (c .before .before .before .before .before .before .before .before .before .rename-list .kept .1 .0 ∙ c .before .before .before .before .before .before .before .before .before .before .before .before .before .before .before .before .rename .kept .1 .0)) (both-fit (c .before .before .before .before .before .before .before .before .before .before .before .before .before .before .before .before .before .before .before .before .before .before .before .before .before .before .before .args .base .now) (c .before .before .before .before .before .before .before .before .before .before .before .before .before .before .before .before .before .before .before .before .before .before .before .before .before .before .before .args .work .now) (c .before .before .before .before .before .before .before .before .before .before .before .before .before .before .before .before .before .before .before .before .before .before .before .before .before .before .before .good .0 .0) (c .before .before .before .before .before .before .before .before .before .before .before .before .before .before .before .before .before .before .before .before .before .before .before .before .before .before .before .good .1 .0 .0)) (c .before .before .push .ensures)
 
--- src/lib.rt:128:1
 rename-list-same-length-3 : (t : ℕ) → rename-list-lts.Need-same-length-3 (cell-at-reads.Asked, cell-at-reads.Learnt, rename-below t, rename.Post, rename-list-below t, rename-list.Post, push-reads.Asked, push-reads.Learnt) (rename-list-at t) rename-list.Post
 rename-list-same-length-3 t c = search needs
 
--- src/lib.rt:128:1
 rename-list-returns-3 : (t : ℕ) → rename-list-lts.Need-returns-3 (cell-at-reads.Asked, cell-at-reads.Learnt, rename-below t, rename.Post, rename-list-below t, rename-list.Post, push-reads.Asked, push-reads.Learnt) (rename-list-at t) rename-list.Post
 rename-list-returns-3 t c = cons-refused-2 _ (c .before .before .before .before .before .before .before .before .before .before .before .before .before .before .before .before .before .before .before .before .before .before .before .pre .1 .1) (c .before .before .before .before .before .before .before .before .before .before .before .before .before .before .before .before .before .cell-at .ensures) (c .before .before .before .before .before .before .before .before .before .before .before .before .before .before .before .c .given .1) (c .before .before .before .before .before .before .before .before .before .before .before .before .rename .ensures) (c .before .before .before .before .before .before .before .before .r .given .1) (c .before .before .before .before .before .rename-list .ensures) (c .before .q2 .given .1)
 
--- src/lib.rt:128:1
 rename-list-same-length-4 : (t : ℕ) → rename-list-lts.Need-same-length-4 (cell-at-reads.Asked, cell-at-reads.Learnt, rename-below t, rename.Post, rename-list-below t, rename-list.Post, push-reads.Asked, push-reads.Learnt) (rename-list-at t) rename-list.Post
 rename-list-same-length-4 t c = search needs
 
--- src/lib.rt:128:1
 rename-list-returns-4 : (t : ℕ) → rename-list-lts.Need-returns-4 (cell-at-reads.Asked, cell-at-reads.Learnt, rename-below t, rename.Post, rename-list-below t, rename-list.Post, push-reads.Asked, push-reads.Learnt) (rename-list-at t) rename-list.Post
 rename-list-returns-4 t c = cons-refused _ (c .before .before .before .before .before .before .before .before .before .before .before .before .before .before .before .before .pre .1 .1) (c .before .before .before .before .before .before .before .before .before .before .cell-at .ensures) (c .before .before .before .before .before .before .before .before .c .given .1) (c .before .before .before .before .before .rename .ensures) (c .before .r2 .given .1)
 

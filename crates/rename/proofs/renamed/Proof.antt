@@ -7,9 +7,6 @@ use Rattle.rename.proofs.Places.{Passed, passed, passes-none, passes-fe
 use Rattle.rename.proofs.renamed.Statement.{statement}
 use Rattle.rename.proofs.renamed.Tie as tie
 use Rattle.rename.proofs.renamed.Reads as reads
-use Rattle.rename.proofs.renamed.Lts as lts
-use Rattle.ast.proofs.cell_at.Reads as cell-at-reads
-use Rattle.rename.proofs.letter_of.Reads as letter-of-reads
 
 abbrev Inv-loop : tie.InvT-loop
 Inv-loop base work letters top vs to x l₀ i₀ l i = Passed (base ++ work) top vs x l i
@@ -17,47 +14,36 @@ Inv-loop base work letters top vs to x l₀ i₀ l i = Passed (base ++ work) top
 abbrev μ-loop : tie.MeasureT-loop
 μ-loop base work letters top vs to x l₀ i₀ l i = l
 
--- src/lib.rt:47:5
 loop-holds : tie.Need-loop-holds Inv-loop μ-loop
 loop-holds c = passed _ (c .before .before .before .pre .vars)
 
--- src/lib.rt:48:13
 cell-at-requires : tie.Need-cell-at-requires Inv-loop μ-loop
 cell-at-requires c κs = node-room (c .loop .inv .node)
 
--- src/lib.rt:51:17
 enum-told : tie.Need-enum-told Inv-loop μ-loop
 enum-told c = search needs
 
--- src/lib.rt:51:17
 letter-of-requires : tie.Need-letter-of-requires Inv-loop μ-loop
 letter-of-requires c κs = c .before .before .before .before .before .before .before .pre .letters
 
--- src/lib.rt:51:17
 returns : tie.Need-returns Inv-loop μ-loop
 returns c = passes-none (c .before .before .before .before .before .before .before .before .pre) (c .before .before .before .before .loop .inv) (c .before .before .before .cell-at .ensures) (c .before .enum-told .given .1) (c .letter-of .ensures)
 
--- src/lib.rt:53:24
 enum-known-c : tie.Need-enum-known-c Inv-loop μ-loop
 enum-known-c c = search needs
 
--- src/lib.rt:55:28
 add-result : tie.Need-add-result Inv-loop μ-loop
 add-result c = let z = passes-few (c .before .before .before .before .before .before .before .before .before .pre) (c .before .before .before .before .before .loop .inv) (c .before .before .before .before .cell-at .ensures) (c .before .before .c .given .1) in omega arith
 
--- src/lib.rt:55:21
 returns-2 : tie.Need-returns-2 Inv-loop μ-loop
 returns-2 c = passes-hit (c .before .before .before .before .before .before .before .before .before .pre) (c .before .before .before .before .before .loop .inv) (c .before .before .before .before .cell-at .ensures) (c .before .before .c .given .1) (c .if1 .taken)
 
--- src/lib.rt:58:17
 add-i : tie.Need-add-i Inv-loop μ-loop
 add-i c = let z = passes-few (c .before .before .before .before .before .before .before .before .before .pre) (c .before .before .before .before .before .loop .inv) (c .before .before .before .before .cell-at .ensures) (c .before .before .c .given .1) in omega arith
 
--- src/lib.rt:47:5
 loop-less : tie.Need-loop-less Inv-loop μ-loop
 loop-less c = passes-on (c .before .before .before .before .before .before .before .before .before .pre) (c .before .before .before .before .before .loop .inv) (c .before .before .before .before .cell-at .ensures) (c .before .before .c .given .1) (c .if1 .left) .0
 
--- src/lib.rt:47:5
 loop-again : tie.Need-loop-again Inv-loop μ-loop
 loop-again c = passes-on (c .before .before .before .before .before .before .before .before .before .pre) (c .before .before .before .before .before .loop .inv) (c .before .before .before .before .cell-at .ensures) (c .before .before .c .given .1) (c .if1 .left) .1
 

@@ -1,0 +1,4 @@
+-- What the proofs of this crate and of callers use.
+pub mod RowWords
+pub mod Taking
+pub mod Making

@@ -1,0 +1,121 @@
+// `instantiate` of 000 over words: a scheme's type and predicates over made variables, and a row for each predicate.
+use apply::Applied;
+use ast::Cell;
+use errors::Refusal;
+ghost use mathlib.Core.Path.{_≡_};
+ghost use mathlib.Core.List.{_++_};
+ghost use Prim.Native.Nat.{_+_, _*_, _≤_};
+ghost use lib.ListN.{length};
+ghost use Rattle.instantiate.specs.Instance.{withWords, ReadyPreds, GivesTaken, ReadyInstance, GivesInstance};
+
+// How many rows, the first free node and the steps left; or a refusal with the last two.
+pub enum Taken {
+    Done(usize, usize, usize),
+    Refused(Refusal, usize, usize),
+}
+
+// A type's word, how many rows, the first free node, the steps left and both counters; or a refusal with node and steps.
+pub enum Instance {
+    Done(usize, usize, usize, usize, usize, usize),
+    Refused(Refusal, usize, usize),
+}
+
+// Writes row j: a dictionary's number, its class and its type.
+fn put_row(binders: &mut [u64], j: usize, d: usize, c: usize, x: usize)
+    requires { ⌜ 3 * j + 3 ≤ length (now binders) ⌝ }
+    ensures { λ _. ⌜ now (binders .exit) ≡ withWords (now (binders .entry)) j d c x ⌝ }
+{
+    let i = 3 * j;
+    binders[i] = d as u64;
+    binders[i + 1] = c as u64;
+    binders[i + 2] = x as u64;
+}
+
+// A row for each predicate of the list ps, left to right: the next dictionary's number, the class, and the type with the
+// variables of the list vs made anew.
+fn take_preds(
+    base: &[u64],
+    work: &mut [u64],
+    names: &[u64],
+    binders: &mut [u64],
+    top: usize,
+    left: usize,
+    tv: usize,
+    dv: usize,
+    vs: usize,
+    ps: usize,
+) -> Taken
+    requires { ⌜ length (now base) ≤ 4 * top ⌝ }
+    requires { ⌜ ReadyPreds (now names) (now base ++ now work) (now binders) top left tv dv vs ps ⌝ }
+    ensures { λ r. ⌜ GivesTaken (now (names .entry)) (now (base .entry) ++ now (work .entry)) (now (base .entry) ++ now (work .exit)) (now (binders .exit)) top left tv dv vs ps r ⌝ }
+{
+    let to = names::FRESH + tv;
+    let mut l = ps;
+    let mut m: usize = 0;
+    let mut t = top;
+    let mut n = left;
+    loop {
+        let c = ast::cell_at(base, work, l);
+        match c {
+            Cell::Nil => return Taken::Done(m, t, n),
+            Cell::Cons(a, b) => {
+                let p = subst::class_at(base, work, l);
+                let r = rename::rename(base, work, names, &base[0..0], t, n, 256, vs, to, a);
+                match r {
+                    Applied::Done(u, t2, n2) => {
+                        put_row(binders, m, dv + m, p, u);
+                        t = t2;
+                        n = n2;
+                    }
+                    Applied::Refused(e, t2, n2) => return Taken::Refused(e, t2, n2),
+                }
+                m += 1;
+                l = b;
+            }
+        }
+    }
+}
+
+// `instantiate`: the type first, then a row for each predicate.
+pub fn instantiate(
+    base: &[u64],
+    work: &mut [u64],
+    names: &[u64],
+    binders: &mut [u64],
+    top: usize,
+    left: usize,
+    sp: usize,
+    tv: usize,
+    dv: usize,
+    vs: usize,
+    ps: usize,
+    t: usize,
+) -> Instance
+    requires { ⌜ length (now base) ≤ 4 * top ⌝ }
+    requires { ⌜ ReadyInstance (now names) (now base ++ now work) (now binders) top left sp tv dv vs ps t ⌝ }
+    ensures { λ r. ⌜ GivesInstance (now (names .entry)) (now (base .entry) ++ now (work .entry)) (now (base .entry) ++ now (work .exit)) (now (binders .exit)) top left sp tv dv vs ps t r ⌝ }
+{
+    let made = tv + ast::count_list(base, work, top, vs);
+    let r = rename::rename(
+        base,
+        work,
+        names,
+        &base[0..0],
+        top,
+        left,
+        256,
+        vs,
+        names::FRESH + tv,
+        t,
+    );
+    match r {
+        Applied::Done(u, t2, l2) => {
+            let q = take_preds(base, work, names, binders, t2, l2, tv, dv, vs, ps);
+            match q {
+                Taken::Done(m, t3, l3) => Instance::Done(u, m, t3, l3, made, dv + m),
+                Taken::Refused(e, t3, l3) => Instance::Refused(e, t3, l3),
+            }
+        }
+        Applied::Refused(e, t2, l2) => Instance::Refused(e, t2, l2),
+    }
+}
