@@ -1,11 +1,12 @@
 -- What the functions of this crate ask of the words and give. The environment is that of the rows ev in the order od.
 use mathlib.Core.Path.{_≡_}
+use mathlib.Core.Bool.{Bool, false}
 use mathlib.Core.List.{List}
 use Prim.Native.Nat.{ℕ, _+_, _*_, _≤_}
 use lib.ListN.{length, take}
 use Rattle.meaning.specs.Base.{count}
 use Rattle.meaning.specs.Ast.{TyVar, tyvar-before, Qual, qual}
-use Rattle.meaning.specs.Subst.{ftv-qual, without}
+use Rattle.meaning.specs.Subst.{ftv-qual, without, occurs}
 use Rattle.meaning.specs.Cores.{sort-by, canonical-renamer, as-subst}
 use Rattle.meaning.specs.Generalize.{Env, env-ftv, preds-of}
 use Rattle.theorems.proofs.Made.{MadeQual}
@@ -15,6 +16,8 @@ use Rattle.vars.specs.Vars.{varsOf}
 use Rattle.pairs.specs.Pairs.{Stands}
 use Rattle.subst.specs.Preds.{predsOf}
 use Rattle.supers.specs.Rows.{bindersIn, Binders}
+use Rattle.supers.specs.declared.rows.Row.{Row}
+use Rattle.supers.specs.declared.rows.Row.the-variants.{Pending, Replaced}
 use Rattle.rows.specs.BuiltIns.{BuiltIns}
 use Rattle.scope.specs.Scope.{envOf, Scope}
 use Rattle.rename.specs.Renaming.{Renames}
@@ -22,6 +25,11 @@ use Rattle.rename.specs.Renaming.{Renames}
 -- The type t under the predicates of the first n rows.
 abbrev pub rowsQual : List ℕ → List ℕ → List ℕ → ℕ → ℕ → Qual
 rowsQual ns w bs n t = qual (preds-of (bindersIn ns w bs 0 n)) (tree ns w t)
+
+-- The variable occurs in the type of a row, if the row is pending.
+abbrev pub rowHas : List ℕ → List ℕ → Row → TyVar → Bool
+rowHas ns w (Pending d c t) v = occurs v (tree ns w t)
+rowHas ns w (Replaced d e) v = false
 
 -- The type t under the predicates of the list ps.
 abbrev pub listQual : List ℕ → List ℕ → ℕ → ℕ → Qual

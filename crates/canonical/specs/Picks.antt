@@ -4,10 +4,10 @@ use mathlib.Core.Path.{_≡_}
 use mathlib.Core.Bool.{Bool, true, false}
 use mathlib.Core.List.{List}
 use mathlib.Core.Logic.{_⊎_}
-use Prim.Native.Nat.{ℕ, _<_, _≤_}
+use Prim.Native.Nat.{ℕ, _+_, _<_, _≤_}
 use Rattle.meaning.specs.Ast.{TyVar, tyvar-before}
 use Rattle.meaning.specs.Map.{tyvars, elem}
-use Rattle.names.specs.Names.{tyvarOf}
+use Rattle.names.specs.Names.{first-node, tyvarOf}
 use Rattle.canonical.specs.declared.Pick.{Pick}
 use Rattle.canonical.specs.declared.Pick.the-variants.{Nothing, Word}
 
@@ -37,13 +37,14 @@ abbrev pub IsOver : List ℕ → Pick → TyVar → Bool → Type 0
 IsOver ns Nothing v r = r ≡ true
 IsOver ns (Word y) v r = r ≡ tyvar-before (tyvarOf ns y) v
 
--- What was picked is one of occ, none of E, and lies before `last`.
-abbrev pub Fits : List ℕ → List TyVar → (TyVar → Bool) → Pick → Pick → Type 0
-Fits ns E occ last Nothing = ⊥
-Fits ns E occ last (Word x) = (occ (tyvarOf ns x) ≡ true) × ((elem tyvars (tyvarOf ns x) E ≡ false) × Under ns last (tyvarOf ns x))
+-- What was picked is a word of the table of top nodes, one of occ, none of E, and lies before `last`.
+abbrev pub Fits : List ℕ → List TyVar → (TyVar → Bool) → ℕ → Pick → Pick → Type 0
+Fits ns E occ top last Nothing = ⊥
+Fits ns E occ top last (Word x) =
+    (x < first-node + top) × ((occ (tyvarOf ns x) ≡ true) × ((elem tyvars (tyvarOf ns x) E ≡ false) × Under ns last (tyvarOf ns x)))
 
 -- r is the last variable of those that are one of occ, none of E and before `last`; or `best`, where none of them is after it.
-pub record Last (ns : List ℕ) (E : List TyVar) (occ : TyVar → Bool) (last best r : Pick) : Type 0 where
-  pub found : (r ≡ best) ⊎ Fits ns E occ last r
+pub record Last (ns : List ℕ) (E : List TyVar) (occ : TyVar → Bool) (top : ℕ) (last best r : Pick) : Type 0 where
+  pub found : (r ≡ best) ⊎ Fits ns E occ top last r
   pub most : (v : TyVar) → occ v ≡ true → elem tyvars v E ≡ false → Under ns last v → Upto ns r v
   pub up : (v : TyVar) → Upto ns best v → Upto ns r v

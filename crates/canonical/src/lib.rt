@@ -4,20 +4,19 @@ use ast::Shape;
 use supers::rows::Row;
 ghost use mathlib.Core.Path.{_≡_};
 ghost use mathlib.Core.List.{_++_};
-ghost use Prim.Native.Nat.{_≤_};
+ghost use Prim.Native.Nat.{_<_, _≤_};
 ghost use lib.ListN.{length};
 ghost use Rattle.meaning.specs.Ast.{var};
 ghost use Rattle.meaning.specs.Subst.{occurs, occurs-in};
 ghost use Rattle.theorems.proofs.FreeVars.{occurs-qual};
 ghost use Rattle.names.specs.Names.{first-fresh, first-nullary, tyvarOf};
 ghost use Rattle.ast.specs.Table.{tree, list};
+ghost use Rattle.supers.specs.Rows.{rowAt, Binders};
 ghost use Rattle.scope.specs.Scope.{envOf};
 ghost use Rattle.canonical.specs.Picks.{Least};
-ghost use Rattle.canonical.specs.Named.{freeIn, ReadyVar, ReadyType, ReadyRows, rowsQual, Lettered};
+ghost use Rattle.canonical.specs.Named.{freeIn, rowHas, ReadyVar, ReadyType, ReadyRows, rowsQual, Lettered};
 
 pub mod sorted;
-
-pub mod renamed;
 
 // A variable's word that a walk picked, or none.
 pub enum Pick {
@@ -106,6 +105,33 @@ fn least_list(
     }
 }
 
+// The least such word of the variables of row i, if the row is pending.
+fn least_row(
+    base: &[u64],
+    work: &[u64],
+    names: &[u64],
+    env: &[u64],
+    order: &[u64],
+    binders: &[u64],
+    top: usize,
+    from: usize,
+    best: usize,
+    n: usize,
+    i: usize,
+) -> usize
+    requires { ⌜ ReadyVar (now names) (now base ++ now work) (now env) (now order) top ⌝ }
+    requires { ⌜ Binders (now base ++ now work) (now binders) top n ⌝ }
+    requires { ⌜ i < n ⌝ }
+    ensures { λ r. ⌜ Least (now (names .entry)) (freeIn (now (names .entry)) (now (base .entry) ++ now (work .entry)) (now (env .entry)) (now (order .entry)))
+        (λ v. rowHas (now (names .entry)) (now (base .entry) ++ now (work .entry)) (rowAt (now (binders .entry)) i) v) from best r ⌝ }
+{
+    let q = supers::rows::row_at(binders, i);
+    match q {
+        Row::Pending(_, _, u) => least_in(base, work, names, env, order, top, from, best, u),
+        Row::Replaced(_, _) => best,
+    }
+}
+
 // The least such word of the variables of the type t and of the pending ones of the first n rows, below all that are no
 // variables' words.
 fn least_above(
@@ -127,13 +153,7 @@ fn least_above(
     let mut best = least_in(base, work, names, env, order, top, from, names::NULLARY, t);
     let mut i: usize = 0;
     while i < n {
-        let q = supers::rows::row_at(binders, i);
-        match q {
-            Row::Pending(_, _, u) => {
-                best = least_in(base, work, names, env, order, top, from, best, u);
-            }
-            Row::Replaced(_, _) => {}
-        }
+        best = least_row(base, work, names, env, order, binders, top, from, best, n, i);
         i += 1;
     }
     best

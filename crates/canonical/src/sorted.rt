@@ -13,7 +13,7 @@ ghost use Rattle.names.specs.Names.{tyvarOf};
 ghost use Rattle.ast.specs.Table.{tree, list, Node};
 ghost use Rattle.scope.specs.Scope.{envOf};
 ghost use Rattle.canonical.specs.Picks.{IsUnder, IsOver, Last};
-ghost use Rattle.canonical.specs.Named.{freeIn, ReadyVar, ReadyType, ReadyVars, listQual, Sorted};
+ghost use Rattle.canonical.specs.Named.{freeIn, ReadyType, ReadyVars, listQual, Sorted};
 
 // A list of variables, and the first free node after it.
 pub struct Vars {
@@ -53,9 +53,9 @@ fn last_var(
     best: Pick,
     x: usize,
 ) -> Pick
-    requires { ⌜ ReadyVar (now names) (now base ++ now work) (now env) (now order) top ⌝ }
+    requires { ⌜ ReadyType (now names) (now base ++ now work) (now env) (now order) top x ⌝ }
     ensures { λ r. ⌜ Last (now (names .entry)) (freeIn (now (names .entry)) (now (base .entry) ++ now (work .entry)) (now (env .entry)) (now (order .entry)))
-        (λ v. occurs v (var (tyvarOf (now (names .entry)) x))) last best r ⌝ }
+        (λ v. occurs v (var (tyvarOf (now (names .entry)) x))) top last best r ⌝ }
 {
     if is_under(names, last, x) {
         if is_over(names, best, x) {
@@ -83,7 +83,7 @@ fn last_in(
 ) -> Pick
     requires { ⌜ ReadyType (now names) (now base ++ now work) (now env) (now order) top t ⌝ }
     ensures { λ r. ⌜ Last (now (names .entry)) (freeIn (now (names .entry)) (now (base .entry) ++ now (work .entry)) (now (env .entry)) (now (order .entry)))
-        (λ v. occurs v (tree (now (names .entry)) (now (base .entry) ++ now (work .entry)) t)) last best r ⌝ }
+        (λ v. occurs v (tree (now (names .entry)) (now (base .entry) ++ now (work .entry)) t)) top last best r ⌝ }
 {
     let s = ast::shape_at(base, work, t);
     match s {
@@ -110,7 +110,7 @@ fn last_list(
 ) -> Pick
     requires { ⌜ ReadyType (now names) (now base ++ now work) (now env) (now order) top l ⌝ }
     ensures { λ r. ⌜ Last (now (names .entry)) (freeIn (now (names .entry)) (now (base .entry) ++ now (work .entry)) (now (env .entry)) (now (order .entry)))
-        (λ v. occurs-in v (list (now (names .entry)) (now (base .entry) ++ now (work .entry)) l)) last best r ⌝ }
+        (λ v. occurs-in v (list (now (names .entry)) (now (base .entry) ++ now (work .entry)) l)) top last best r ⌝ }
 {
     let c = ast::cell_at(base, work, l);
     match c {
@@ -137,7 +137,7 @@ fn last_before(
     requires { ⌜ ReadyType (now names) (now base ++ now work) (now env) (now order) top t ⌝ }
     requires { ⌜ Node (now base ++ now work) top ps ⌝ }
     ensures { λ r. ⌜ Last (now (names .entry)) (freeIn (now (names .entry)) (now (base .entry) ++ now (work .entry)) (now (env .entry)) (now (order .entry)))
-        (λ v. occurs-qual v (listQual (now (names .entry)) (now (base .entry) ++ now (work .entry)) ps t)) last Pick.Nothing r ⌝ }
+        (λ v. occurs-qual v (listQual (now (names .entry)) (now (base .entry) ++ now (work .entry)) ps t)) top last Pick.Nothing r ⌝ }
 {
     let m = last_list(base, work, names, env, order, top, last, Pick::Nothing, ps);
     last_in(base, work, names, env, order, top, last, m, t)
