@@ -3,8 +3,8 @@ use native.Mathlib.Omega.{arith}
 use mathlib.Core.Path.{sym, _∙_}
 use Rattle.unify.proofs.Binding.{bind-infinite, bind-room, bind-done}
 use borrow.Author.Needs.{needs}
-use Rattle.unify.proofs.bind_other.Statement.{statement}
-use Rattle.unify.proofs.bind_other.Tie as tie
+use Rattle.unify.proofs.variable.bind_other.Statement.{statement}
+use Rattle.unify.proofs.variable.bind_other.Tie as tie
 
 occurs-in-requires : tie.Need-occurs-in-requires
 occurs-in-requires c κs = search needs

@@ -1,8 +1,8 @@
 -- A variable against itself gives no pairs; all else is bound.
 use Rattle.unify.proofs.Binding.{bind-self, bind-var, bind-con, bind-arrow}
 use borrow.Author.Needs.{needs}
-use Rattle.unify.proofs.bind.Statement.{statement}
-use Rattle.unify.proofs.bind.Tie as tie
+use Rattle.unify.proofs.variable.bind.Statement.{statement}
+use Rattle.unify.proofs.variable.bind.Tie as tie
 
 shape-at-requires : tie.Need-shape-at-requires
 shape-at-requires c κs = search needs
