@@ -17,7 +17,8 @@ use Rattle.nodes.specs.declared.Counts.{Counts}
 use Rattle.nodes.specs.Known.{Before, Known}
 use Rattle.sections.specs.declared.Part.the-variants.{Types as Part-Types, Exprs as Part-Exprs, Decls as Part-Decls}
 use Rattle.sections.specs.declared.Many.the-variants.{Read as Many-Read, Bad as Many-Bad}
-use Rattle.sections.specs.Parts.{Placed, GivesSection}
+use Rattle.reader.specs.Placing.{Placed}
+use Rattle.sections.specs.Parts.{GivesSection}
 use Rattle.sections.proofs.Places.{placed-kept}
 use Rattle.sections.proofs.Going.{known-on}
 use Rattle.body.specs.declared.Reading.{Reading}
@@ -41,12 +42,13 @@ module _ (bytes ix ix′ : List ℕ) (n : Counts) (at : ℕ) where
   -- ## declarations
   pub decls-bad : (e : Refusal) → GivesSection bytes ix ix′ n Part-Decls at (Many-Bad e) → GivesTail DeclsAs 10_240 bytes ix ix′ n at (Bad e)
   unfolding after-exprs
-  decls-bad e g = record { low = g .low; is = λ s k. stops _ _ _ (g .is s k) }
+  decls-bad e g = record { low = g .low; high = λ j l. g .high j (omega arith); is = λ s k. stops _ _ _ (g .is s k) }
 
   pub decls-more : (d p : ℕ) → GivesSection bytes ix ix′ n Part-Decls at (Many-Read d p) → (p ≡ length bytes → ⊥) → GivesTail DeclsAs 10_240 bytes ix ix′ n at (Bad (Format p))
   unfolding after-exprs
   decls-more d p g h = record {
     low = g .low;
+    high = λ j l. g .high j (omega arith);
     is = λ s k. let o = g .is s k in
         goes-on _ _ (o .0) p _ (o .1) ∙ stops (end-of-file p (from p bytes)) _ _ (byte-more bytes p (let w = o .4 in omega (arith, w, h)));
   }
@@ -55,6 +57,7 @@ module _ (bytes ix ix′ : List ℕ) (n : Counts) (at : ℕ) where
       → GivesTail DeclsAs 10_240 bytes ix ix′ n at (Good (n .names) (n .types) (n .exprs) d)
   decls-good d p g h = record {
     low = g .low;
+    high = λ j l. g .high j (omega arith);
     is = λ s k. let o = g .is s k in
         (refl, refl, refl, record { decls = o .0; read = o .1 ∙ ap (λ bs. got (o .0) p bs) (file-ends bytes p h) ∙ ap (λ q. got (o .0) q []) h; many = o .2; placed = subst (λ q. Placed bytes ix′ 10_240 (λ earlier. decl-entry (s .names) (s .types) (s .exprs)) (o .0) (at + 2) q) h (o .5) });
   }
@@ -62,12 +65,12 @@ module _ (bytes ix ix′ : List ℕ) (n : Counts) (at : ℕ) where
   -- ## expressions
   pub exprs-bad : (e : Refusal) → GivesSection bytes ix ix′ n Part-Exprs at (Many-Bad e) → GivesTail ExprsAs 6_144 bytes ix ix′ n at (Bad e)
   unfolding after-types
-  exprs-bad e g = record { low = g .low; is = λ s k. stops _ _ _ (g .is s k) }
+  exprs-bad e g = record { low = g .low; high = λ j l. g .high j (omega arith); is = λ s k. stops _ _ _ (g .is s k) }
 
   -- ## types
   pub types-bad : (e : Refusal) → GivesSection bytes ix ix′ n Part-Types at (Many-Bad e) → GivesTail TypesAs 2_048 bytes ix ix′ n at (Bad e)
   unfolding after-names
-  types-bad e g = record { low = g .low; is = λ s k. stops _ _ _ (g .is s k) }
+  types-bad e g = record { low = g .low; high = λ j l. g .high j (omega arith); is = λ s k. stops _ _ _ (g .is s k) }
 
 -- What stays known once expressions or types were read.
 exprs-known : (ix ix₁ : List ℕ) (n : Counts) (s : Before) (c : ℕ) (es : List _) → n .names ≤ 1_024 → ((j : ℕ) → j < 6_144 → getD ix₁ j 0 ≡ getD ix j 0) → count es ≡ c → Known ix n s
@@ -85,7 +88,7 @@ module _ (bytes ix ix₁ ix′ : List ℕ) (n : Counts) (at : ℕ) (few : n .nam
   pub exprs-on : (c p : ℕ) (r : Reading) → GivesSection bytes ix ix₁ n Part-Exprs at (Many-Read c p)
       → GivesTail DeclsAs 10_240 bytes ix₁ ix′ (record { names = n .names; types = n .types; exprs = c }) p r → GivesTail ExprsAs 6_144 bytes ix ix′ n at r
   unfolding after-types
-  exprs-on c p r g h = record { low = λ j l. h .low j (omega arith) ∙ g .low j l; is = λ s k. go s (g .is s k) r (λ es m. h .is (with-exprs s es) (exprs-known ix ix₁ n s c es few (g .low) m k)) }
+  exprs-on c p r g h = record { low = λ j l. h .low j (omega arith) ∙ g .low j l; high = λ j l. h .high j l ∙ g .high j (omega arith); is = λ s k. go s (g .is s k) r (λ es m. h .is (with-exprs s es) (exprs-known ix ix₁ n s c es few (g .low) m k)) }
     where
       go : (s : Before) → (es : List _) × (section 4_096 (expr-node (s .names)) at (from at bytes) ≡ got es p (from p bytes)) × (count es ≡ c) × (c ≤ 4_096) × (p ≤ length bytes) × Placed bytes ix₁ 6_144 (expr-node (s .names)) es (at + 2) p
           → (r : Reading) → ((es : List _) → count es ≡ c → DeclsAs bytes ix′ (record { names = n .names; types = n .types; exprs = c }) (with-exprs s es) p r) → ExprsAs bytes ix′ n s at r
@@ -107,7 +110,7 @@ module _ (bytes ix ix₁ ix′ : List ℕ) (n : Counts) (at : ℕ) (few : n .nam
   pub types-on : (b p : ℕ) (r : Reading) → GivesSection bytes ix ix₁ n Part-Types at (Many-Read b p)
       → GivesTail ExprsAs 6_144 bytes ix₁ ix′ (record { names = n .names; types = b; exprs = n .exprs }) p r → GivesTail TypesAs 2_048 bytes ix ix′ n at r
   unfolding after-names
-  types-on b p r g h = record { low = λ j l. h .low j (omega arith) ∙ g .low j l; is = λ s k. go s (g .is s k) r (λ ts m. h .is (with-types s ts) (types-known ix ix₁ n s b ts few (g .low) m k)) }
+  types-on b p r g h = record { low = λ j l. h .low j (omega arith) ∙ g .low j l; high = λ j l. h .high j l ∙ g .high j (omega arith); is = λ s k. go s (g .is s k) r (λ ts m. h .is (with-types s ts) (types-known ix ix₁ n s b ts few (g .low) m k)) }
     where
       go : (s : Before) → (ts : List _) × (section 4_096 (type-node (s .names)) at (from at bytes) ≡ got ts p (from p bytes)) × (count ts ≡ b) × (b ≤ 4_096) × (p ≤ length bytes) × Placed bytes ix₁ 2_048 (type-node (s .names)) ts (at + 2) p
           → (r : Reading) → ((ts : List _) → count ts ≡ b → ExprsAs bytes ix′ (record { names = n .names; types = b; exprs = n .exprs }) (with-types s ts) p r) → TypesAs bytes ix′ n s at r

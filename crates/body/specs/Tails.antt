@@ -1,7 +1,7 @@
 -- A file section by section, from a place on to its end: what the definition reads there, and where it stands.
 use mathlib.Core.Path.{_≡_}
 use mathlib.Core.List.{List, []}
-use Prim.Native.Nat.{ℕ, _+_, _<_}
+use Prim.Native.Nat.{ℕ, _+_, _<_, _≤_}
 use lib.ListN.{length, getD}
 use Rattle.meaning.specs.Base.{count}
 use Rattle.meaning.specs.Ast.{Ty, Expr, Decl}
@@ -10,7 +10,7 @@ use Rattle.meaning.specs.File.{File, type-node, expr-node, decl-entry}
 use Rattle.errors.specs.Refusals.{refusalOf}
 use Rattle.nodes.specs.declared.Counts.{Counts}
 use Rattle.nodes.specs.Known.{Before, Known}
-use Rattle.sections.specs.Parts.{Placed}
+use Rattle.reader.specs.Placing.{Placed}
 use Rattle.body.specs.declared.Reading as Code
 use Rattle.body.specs.declared.Reading.the-variants.{Good, Bad}
 
@@ -76,7 +76,9 @@ abbrev pub TypesAs : List ℕ → List ℕ → Counts → Before → ℕ → Cod
 TypesAs bytes ix n s at (Good a b c d) = (a ≡ n .names) × Types bytes ix s at b c d
 TypesAs bytes ix n s at (Bad e) = after-names s at (from at bytes) ≡ bad (refusalOf [] [] e)
 
--- The index became ix′, and changed from the word base on only; the answer is right for whatever stands before.
+-- The index became ix′, and changed from the word base up to the last place of a declaration only; the answer is right for
+-- whatever stands before.
 pub record GivesTail (As : List ℕ → List ℕ → Counts → Before → ℕ → Code.Reading → Type 0) (base : ℕ) (bytes ix ix′ : List ℕ) (n : Counts) (at : ℕ) (r : Code.Reading) : Type 0 where
   pub low : (j : ℕ) → j < base → getD ix′ j 0 ≡ getD ix j 0
+  pub high : (j : ℕ) → 10_752 ≤ j → getD ix′ j 0 ≡ getD ix j 0
   pub is : (s : Before) → Known ix n s → As bytes ix′ n s at r

@@ -17,7 +17,7 @@ pub enum Reading {
 // The declarations, and no byte after them.
 fn read_decls(src: &[u8], index: &mut [u64], at: usize, n: Counts) -> Reading
     requires { ⌜ n .names ≤ 1024 ⌝ }
-    requires { ⌜ length (now index) ≡ 10752 ⌝ }
+    requires { ⌜ length (now index) ≡ 11776 ⌝ }
     ensures { λ r. ⌜ GivesTail DeclsAs 10240 (now (src .entry)) (now (index .entry)) (now (index .exit)) n at r ⌝ }
 {
     let m = sections::section(src, index, at, n, Part::Decls);
@@ -35,7 +35,7 @@ fn read_decls(src: &[u8], index: &mut [u64], at: usize, n: Counts) -> Reading
 // The expressions and what follows them.
 fn read_exprs(src: &[u8], index: &mut [u64], at: usize, n: Counts) -> Reading
     requires { ⌜ n .names ≤ 1024 ⌝ }
-    requires { ⌜ length (now index) ≡ 10752 ⌝ }
+    requires { ⌜ length (now index) ≡ 11776 ⌝ }
     ensures { λ r. ⌜ GivesTail ExprsAs 6144 (now (src .entry)) (now (index .entry)) (now (index .exit)) n at r ⌝ }
 {
     let m = sections::section(src, index, at, n, Part::Exprs);
@@ -57,7 +57,7 @@ fn read_exprs(src: &[u8], index: &mut [u64], at: usize, n: Counts) -> Reading
 // The types and what follows them.
 pub fn read_types(src: &[u8], index: &mut [u64], at: usize, n: Counts) -> Reading
     requires { ⌜ n .names ≤ 1024 ⌝ }
-    requires { ⌜ length (now index) ≡ 10752 ⌝ }
+    requires { ⌜ length (now index) ≡ 11776 ⌝ }
     ensures { λ r. ⌜ GivesTail TypesAs 2048 (now (src .entry)) (now (index .entry)) (now (index .exit)) n at r ⌝ }
 {
     let m = sections::section(src, index, at, n, Part::Types);

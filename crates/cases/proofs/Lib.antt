@@ -2,3 +2,5 @@
 pub mod Never
 pub mod Apart
 pub mod Falling
+pub mod Tested
+pub mod Rowed

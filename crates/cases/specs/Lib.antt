@@ -1,1 +1,3 @@
 pub mod Tested
+pub mod Posed
+pub mod Typed

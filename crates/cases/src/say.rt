@@ -172,6 +172,11 @@ pub fn whole(base: &[u64], work: &[u64], names: &[u64], t: usize) {
     tree(base, work, names, 1000000, t);
 }
 
+// Writes a list of types, a blank before each: no list that is written has as many.
+pub fn all(base: &[u64], work: &[u64], names: &[u64], l: usize) {
+    list(base, work, names, 1000000, l);
+}
+
 // Writes two types, a blank before each.
 fn types(base: &[u64], work: &[u64], names: &[u64], a: usize, b: usize) {
     text(b" ");

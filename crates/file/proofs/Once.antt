@@ -3,14 +3,15 @@
 use mathlib.Core.Path.{_≡_, refl, sym, ap, _∙_, subst}
 use mathlib.Core.List.{List, []}
 use mathlib.Core.Option.{some}
-use Prim.Native.Nat.{ℕ, _≤_}
+use Prim.Native.Nat.{ℕ, suc, _+_, _≤_}
 use native.Mathlib.Omega.{arith}
-use lib.ListN.{length, getD}
+use lib.ListN.{length, getD, List·getD-eq-default}
 use Rattle.meaning.specs.Base.{count, nth}
 use Rattle.meaning.specs.Ast.{Name}
 use Rattle.meaning.specs.Errors as E
 use Rattle.meaning.specs.Reader.{Read, got, bad}
 use Rattle.meaning.specs.File as M
+use Rattle.theorems.proofs.Grown.{nth-below}
 use Rattle.theorems.proofs.Readers.{UpTo}
 use Rattle.theorems.proofs.FileNodes.{Good as Good-File}
 use Rattle.theorems.proofs.FileRead.{refused-within, accepted-good}
@@ -20,7 +21,7 @@ use Rattle.errors.specs.declared.Refusal.the-variants.{Format, Limit, Reserved,
 use Rattle.names.specs.Names.{nameOf}
 use Rattle.body.specs.declared.Reading.{Reading}
 use Rattle.body.specs.declared.Reading.the-variants.{Good, Bad}
-use Rattle.file.specs.Reading.{IsName, Reads}
+use Rattle.file.specs.Reading.{IsName, IsPlace, Reads}
 
 -- A refusal of a file: one of 1 to 3, with an offset.
 data OfFile (e : Refusal) : Type 0 where
@@ -128,9 +129,20 @@ reads-good bytes ns ix a b c d g = accepted-good bytes (g .is .0) _ _ (g .is .1)
 pub refuses-within : (bytes ns ix : List ℕ) (e : Refusal) → Reads bytes ns ix (Bad e) → UpTo (count bytes) (refusalOf [] [] e)
 refuses-within bytes ns ix e g = refused-within bytes _ (g .is)
 
+-- Past the index a word reads as 0.
+pub past : (ix : List ℕ) (i : ℕ) → length ix ≤ i → 0 ≡ getD ix i 0
+past ix i h = sym (List·getD-eq-default ix 0 {n = i} h)
+
 -- The word of the index is the number.
 pub name-word : (ix : List ℕ) (i r : ℕ) → r ≡ getD ix i 0 → IsName ix i r
 name-word ix i r e = record {
   is = λ bytes ns f a b c d g x h. ap (λ n. nameOf ns n) e ∙ g .names i x h .named;
   small = λ bytes ns f a b c d g x h. rw e (g .names i x h .number);
+}
+
+-- The word of the index is the place.
+pub place-word : (ix : List ℕ) (i r : ℕ) → r ≡ getD ix (10_752 + i) 0 → IsPlace ix i r
+place-word ix i r e = record {
+  is = λ bytes ns f a b c d g x h. let P = g .names-at in
+      (P .begins (suc i), rw (e ∙ P .word i (nth-below (f .names) i x h)) (P .item i x h));
 }

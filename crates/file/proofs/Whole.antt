@@ -24,6 +24,7 @@ use Rattle.reader.proofs.Sequence.{stops}
 use Rattle.nodes.specs.declared.Counts.{Counts}
 use Rattle.nodes.specs.Known.{Before, Known}
 use Rattle.nametable.specs.Tables.{NameKnown, SectionRead, NamesRead}
+use Rattle.sections.proofs.Places.{placed-kept}
 use Rattle.body.specs.declared.Reading.{Reading}
 use Rattle.body.specs.declared.Reading.the-variants.{Good, Bad as Reading-Bad}
 use Rattle.body.specs.Tails.{with-types, with-exprs, after-exprs, after-types, after-names, Declarations, Expressions, Types, TypesAs, GivesTail}
@@ -109,6 +110,8 @@ module _ (bytes ns′ ix ix₁ ix′ : List ℕ) (small : length bytes ≤ 65_53
             table = g .is .table;
             built = g .is .built;
             names = name-on q (g .is) (h .low);
+            names-end = q;
+            names-at = placed-kept bytes ix₁ ix′ 10_752 M.name-entry (g .is .list) 2 q (λ j l. h .high (10_752 + j) (omega arith)) (g .is .places);
             types = record { start = q + 2; end = t .1 .end; placed = t .1 .placed };
             exprs = record { start = t .1 .end + 2; end = t .1 .rest .end; placed = t .1 .rest .placed };
             decls = record { start = t .1 .rest .end + 2; end = length bytes; placed = t .1 .rest .rest .placed };

@@ -6,13 +6,13 @@ use Prim.Native.Nat.{ℕ, _+_, _<_}
 use lib.ListN.{length}
 use Rattle.meaning.specs.Base.{count, nth}
 use Rattle.meaning.specs.Ast.{Name}
-use Rattle.meaning.specs.Reader.{got, bad, Reader}
+use Rattle.meaning.specs.Reader.{got, bad, Reader, from}
 use Rattle.meaning.specs.File as M
 use Rattle.errors.specs.Refusals.{refusalOf}
 use Rattle.names.specs.Names.{Names, nameOf}
 use Rattle.rows.specs.BuiltIns.{BuiltIns}
 use Rattle.nametable.specs.Tables.{NameKnown}
-use Rattle.sections.specs.Parts.{Placed}
+use Rattle.reader.specs.Placing.{upto, Placed}
 use Rattle.body.specs.declared.Reading as Code
 use Rattle.body.specs.declared.Reading.the-variants.{Good, Bad}
 
@@ -31,6 +31,8 @@ pub record Indexed (bytes ns ix : List ℕ) (f : M.File) (a b c d : ℕ) : Type 
   pub table : Names ns
   pub built : BuiltIns ns
   pub names : (i : ℕ) (x : Name) → nth (f .names) i ≡ some x → NameKnown ns ix i x
+  pub names-end : ℕ
+  pub names-at : Placed bytes ix 10_752 M.name-entry (f .names) 2 names-end
   pub types : Places bytes ix 2_048 (M.type-node (f .names)) (f .types)
   pub exprs : Places bytes ix 6_144 (M.expr-node (f .names)) (f .exprs)
   pub decls : Places bytes ix 10_240 (λ earlier. M.decl-entry (f .names) (f .types) (f .exprs)) (f .decls)
@@ -48,3 +50,8 @@ pub record Reads (bytes ns ix : List ℕ) (r : Code.Reading) : Type 0 where
 pub record IsName (ix : List ℕ) (i r : ℕ) : Type 0 where
   pub is : (bytes ns : List ℕ) (f : M.File) (a b c d : ℕ) → Indexed bytes ns ix f a b c d → (x : Name) → nth (f .names) i ≡ some x → nameOf ns r ≡ x
   pub small : (bytes ns : List ℕ) (f : M.File) (a b c d : ℕ) → Indexed bytes ns ix f a b c d → (x : Name) → nth (f .names) i ≡ some x → r < 1_059
+
+-- A place r: in a file that is read the definition reads the i-th name there, after the names before it.
+pub record IsPlace (ix : List ℕ) (i r : ℕ) : Type 0 where
+  pub is : (bytes ns : List ℕ) (f : M.File) (a b c d : ℕ) → Indexed bytes ns ix f a b c d → (x : Name) → nth (f .names) i ≡ some x
+      → (end : ℕ) × (M.name-entry (upto i (f .names)) r (from r bytes) ≡ got x end (from end bytes))

@@ -4,7 +4,8 @@ use mathlib.Core.List.{List, [], _∷_, _++_}
 use Prim.Native.Nat.{ℕ, suc, _+_, _-_, _^_, _<_, _≤_}
 use native.Mathlib.Decide.{ℕ-discrete}
 use native.Mathlib.Omega.{arith}
-use lib.ListN.{length, getD}
+use lib.ListN.{length, getD, set, length-set}
+use lib.Seq.{getD-set-same, getD-set-other}
 use Rattle.meaning.specs.Ast.{Name, name}
 use Rattle.meaning.specs.Errors.{Refusal}
 use Rattle.meaning.specs.Reader.{got, bad, Reader, onward, from, items}
@@ -17,7 +18,8 @@ use Rattle.reader.specs.declared.Place.the-variants.{Next, Bad}
 use Rattle.rows.specs.Rows.{namesFrom}
 use Rattle.spelling.specs.Forms.{FormWord}
 use Rattle.nametable.specs.Entries.{Took, Taken}
-use Rattle.nametable.specs.Tables.{Holds, Apart, ReadAll}
+use Rattle.nametable.specs.Tables.{Spots, Holds, Apart, ReadAll}
+use Rattle.nametable.proofs.Spotting.{no-spots, same-spots, more-spots}
 use Rattle.rows.proofs.Listed.{names-snoc, names-stand}
 
 -- ## items
@@ -44,19 +46,21 @@ pub record Going (bytes ns₀ ix₀ ns ix : List ℕ) (at n i p : ℕ) : Type 0 
   pub reads : items name-entry n [] at (from at bytes) ≡ items name-entry (n - i) (namesFrom ns 35 i) p (from p bytes)
   pub within : p ≤ length bytes
   pub holds : Holds ns ix i
+  pub spots : Spots bytes ns ix at i p
   pub apart : Apart ns₀ ix₀ ns ix i
   pub names-length : length ns ≡ 4236
-  pub index-length : length ix ≡ 10752
+  pub index-length : length ix ≡ 11776
 
 -- No name is read yet.
-pub none-read : (bytes ns ix : List ℕ) (at n : ℕ) → at ≤ length bytes → length ns ≡ 4236 → length ix ≡ 10752 → Going bytes ns ix ns ix at n 0 at
+pub none-read : (bytes ns ix : List ℕ) (at n : ℕ) → at ≤ length bytes → length ns ≡ 4236 → length ix ≡ 11776 → Going bytes ns ix ns ix at n 0 at
 unfolding namesFrom
 none-read bytes ns ix at n h u v = record {
   upto = omega arith;
   reads = ap (λ (m : ℕ). items name-entry m [] at (from at bytes)) (whole n);
   within = h;
   holds = record { full = λ j i. absurd (omega arith); apart = λ j k i l. absurd (omega arith); forms = λ j i. absurd (omega arith) };
-  apart = record { low = λ r i. refl; high = λ r i. refl; index = λ k i. refl };
+  spots = no-spots bytes ns ix at;
+  apart = record { low = λ r i. refl; high = λ r i. refl; index = λ k i l. refl };
   names-length = u;
   index-length = v;
 }
@@ -92,13 +96,33 @@ more-apart : {bytes ns₀ ix₀ ns ix ns′ ix′ : List ℕ} {at i p : ℕ} →
 more-apart h g t = record {
   low = λ r l. t .others r (λ e. omega arith) ∙ g .low r l;
   high = λ r l. t .others r (λ e. omega arith) ∙ g .high r (omega arith);
-  index = λ k l. t .stands k (λ e. omega arith) ∙ g .index k l;
+  index = λ k l m. t .stands k (λ e. omega arith) ∙ g .index k l m;
 }
 
+-- The place of the next name was written into the index.
+pub one-marked : {bytes ns₀ ix₀ ns ix ix₁ : List ℕ} {at n i p : ℕ} (v : ℕ) → Going bytes ns₀ ix₀ ns ix at n i p → i < n → n ≤ 1024 → ix₁ ≡ set ix (10_752 + i) v → Going bytes ns₀ ix₀ ns ix₁ at n i p
+one-marked {bytes} {ns₀} {ix₀} {ns} {ix} {ix₁} {at} {n} {i} {p} v g h l w = record {
+  upto = g .upto;
+  reads = g .reads;
+  within = g .within;
+  holds = record { full = g .holds .full; apart = g .holds .apart; forms = λ j m. rw (other (1_024 + j) (λ e. omega arith)) (g .holds .forms j m) };
+  spots = same-spots (λ k m. other (10_752 + k) (λ e. omega arith)) (g .spots);
+  apart = record { low = g .apart .low; high = g .apart .high; index = λ k a b. other k (λ e. omega arith) ∙ g .apart .index k a b };
+  names-length = g .names-length;
+  index-length = ap length w ∙ length-set ix (10_752 + i) v ∙ g .index-length;
+}
+  where
+    other : (k : ℕ) → (k ≡ 10_752 + i → ⊥) → getD ix₁ k 0 ≡ getD ix k 0
+    other k m = ap (λ (xs : List ℕ). getD xs k 0) w ∙ getD-set-other ix (10_752 + i) k v 0 m
+
+-- So its word has the place.
+pub marked-here : {bytes ns₀ ix₀ ns ix ix₁ : List ℕ} {at n i p : ℕ} (v : ℕ) → Going bytes ns₀ ix₀ ns ix at n i p → i < n → n ≤ 1024 → ix₁ ≡ set ix (10_752 + i) v → getD ix₁ (10_752 + i) 0 ≡ v
+marked-here {ix = ix} {i = i} v g h l w = let m = g .index-length in ap (λ (xs : List ℕ). getD xs (10_752 + i) 0) w ∙ getD-set-same ix (10_752 + i) v 0 (omega arith)
+
 -- One name more.
-pub one-read : {bytes ns₀ ix₀ ns ix ns′ ix′ : List ℕ} {at n i p q : ℕ} {r : Place} → Going bytes ns₀ ix₀ ns ix at n i p → i < n → n ≤ 1024 → length ns′ ≡ length ns → length ix′ ≡ length ix
+pub one-read : {bytes ns₀ ix₀ ns ix ns′ ix′ : List ℕ} {at n i p q : ℕ} {r : Place} → Going bytes ns₀ ix₀ ns ix at n i p → i < n → n ≤ 1024 → getD ix (10_752 + i) 0 ≡ p → length ns′ ≡ length ns → length ix′ ≡ length ix
     → Taken bytes ns ix ns′ ix′ p i r → r ≡ Next q → Going bytes ns₀ ix₀ ns′ ix′ at n (i + 1) q
-one-read {bytes} {ns₀} {ix₀} {ns} {ix} {ns′} {ix′} {at} {n} {i} {p} {q} {r} g h l u v t e = go (rw e at t)
+one-read {bytes} {ns₀} {ix₀} {ns} {ix} {ns′} {ix′} {at} {n} {i} {p} {q} {r} g h l here u v t e = go (rw e at t)
   where
     steps : (n i : ℕ) → i < n → n - i ≡ suc (n - (i + 1))
     steps n i h = omega arith
@@ -118,6 +142,7 @@ one-read {bytes} {ns₀} {ix₀} {ns} {ix} {ns′} {ix′} {at} {n} {i} {p} {q} 
           ∙ ap (λ (xs : List Name). items name-entry (n - (i + 1)) xs q (from q bytes)) (more k);
       within = k .within;
       holds = more-holds (g .holds) k;
+      spots = more-spots (omega arith) here (g .spots) k;
       apart = more-apart (omega arith) (g .apart) k;
       names-length = u ∙ g .names-length;
       index-length = v ∙ g .index-length;
@@ -153,6 +178,7 @@ all-read {bytes} {ns₀} {ix₀} {ns} {ix} {at} {n} {i} {p} g h = go i g (same n
         read = k .reads ∙ ap (λ (m : ℕ). items name-entry m (namesFrom ns 35 n) p (from p bytes)) (none n) ∙ items-end name-entry (namesFrom ns 35 n) p (from p bytes);
         within = k .within;
         holds = k .holds;
+        spots = k .spots;
         apart = k .apart;
       };
     }

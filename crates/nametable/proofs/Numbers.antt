@@ -53,9 +53,9 @@ pub record Binding (ns₀ ix₀ ns ix : List ℕ) (n i : ℕ) : Type 0 where
   pub high : (r : ℕ) → 35 + i ≤ r → row ns r ≡ row ns₀ r
   pub stands : (k : ℕ) → i ≤ k → getD ix k 0 ≡ getD ix₀ k 0
   pub names-length : length ns ≡ 4236
-  pub index-length : length ix ≡ 10752
+  pub index-length : length ix ≡ 11776
 
-pub none-bound : (ns ix : List ℕ) (n : ℕ) → length ns ≡ 4236 → length ix ≡ 10752 → Binding ns ix ns ix n 0
+pub none-bound : (ns ix : List ℕ) (n : ℕ) → length ns ≡ 4236 → length ix ≡ 11776 → Binding ns ix ns ix n 0
 none-bound ns ix n u v = record {
   upto = omega arith;
   numbers = λ j h. absurd (omega arith);

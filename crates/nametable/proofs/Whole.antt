@@ -7,7 +7,7 @@ use native.Mathlib.Decide.{decLt}
 use native.Mathlib.Omega.{arith}
 use lib.ListN.{length, getD}
 use lib.Dec.{lit≤}
-use Rattle.meaning.specs.Base.{nth}
+use Rattle.meaning.specs.Base.{count, nth}
 use Rattle.meaning.specs.Ast.{Name, name}
 use Rattle.names.specs.Names.{row, nameOf, Names}
 use Rattle.names.proofs.Tests.{lt-yes}
@@ -18,8 +18,9 @@ use Rattle.errors.specs.declared.Refusal as E
 use Rattle.rows.specs.BuiltIns.{built-ins}
 use Rattle.rows.specs.Rows.{namesFrom, Filled, Words}
 use Rattle.spelling.specs.Forms.{FormWord}
-use Rattle.nametable.specs.Tables.{ReadUpTo, ReadAll, Number, own, built, AllBound, NameKnown, SectionRead, NamesRead}
+use Rattle.nametable.specs.Tables.{placeOf, ReadUpTo, ReadAll, Number, own, built, AllBound, NameKnown, SectionRead, NamesRead}
 use Rattle.rows.proofs.Listed.{Nth, names-nth, names-count}
+use Rattle.nametable.proofs.Spotting.{place-read, place-next, names-upto}
 use Rattle.rows.proofs.Start.{built-full, built-apart, built-below}
 
 -- What a row of the table holds: a built-in name; its own number; or a name of the file that is no built-in name.
@@ -139,9 +140,17 @@ module _ {bytes ns₀ ix₀ ns₁ ix₁ ns₂ ix₂ : List ℕ} {at n p : ℕ} (
     within = got .within;
     many = names-count ns₁ 35 n;
     known = λ i x e. found i x (names-nth ns₁ 35 n i x e);
+    places = record {
+      begins = placeOf ix₁ n p;
+      first = got .spots .first;
+      last = place-next ix₁ n p (count (namesFrom ns₁ 35 n)) (let m = names-count ns₁ 35 n in omega arith);
+      word = λ i h. end .stands (10_752 + i) (omega arith) ∙ sym (place-read ix₁ n p i (let m = names-count ns₁ 35 n in omega arith));
+      item = λ i x e. let m = names-nth ns₁ 35 n i x e in
+          rw (names-upto ns₁ 35 n i (let b = m .below in omega arith), sym (m .is)) (got .spots .item i (m .below));
+    };
     table = table;
     built = record { is = λ b x e. let h = built-below b x e in row-name ns₂ b (omega arith) long ∙ some-inj _ x (sym (built-row b h) ∙ e) };
-    stands = λ k h. end .stands k (omega arith) ∙ got .apart .index k h;
+    stands = λ k h l. end .stands k (omega arith) ∙ got .apart .index k h l;
   }
 
 -- ## ways out

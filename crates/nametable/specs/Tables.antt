@@ -2,9 +2,9 @@
 use mathlib.Core.Path.{_≡_}
 use mathlib.Core.List.{List, []}
 use mathlib.Core.Option.{some}
-use Prim.Native.Nat.{ℕ, _+_, _^_, _<_, _≤_}
+use Prim.Native.Nat.{ℕ, suc, _+_, _^_, _<_, _≤_}
 use lib.ListN.{length, getD}
-use Rattle.meaning.specs.Base.{count, nth}
+use Rattle.meaning.specs.Base.{if, ltb, count, nth}
 use Rattle.meaning.specs.Ast.{Name, name}
 use Rattle.meaning.specs.Reader.{got, bad, from, items}
 use Rattle.meaning.specs.File.{name-entry}
@@ -12,9 +12,20 @@ use Rattle.errors.specs.Refusals.{refusalOf}
 use Rattle.names.specs.Names.{row, nameOf, Names}
 use Rattle.reader.specs.declared.Place.{Place}
 use Rattle.reader.specs.declared.Place.the-variants.{Next, Bad}
+use Rattle.reader.specs.Placing.{Placed}
 use Rattle.rows.specs.BuiltIns.{BuiltIns}
 use Rattle.rows.specs.Rows.{namesFrom}
 use Rattle.spelling.specs.Forms.{FormWord}
+
+-- The place of the j-th name, where i names were read up to the place p: its word of the index, or p for the next one.
+unfoldable pub placeOf : List ℕ → (i p j : ℕ) → ℕ
+placeOf ix i p j = if (ltb j i) (getD ix (10_752 + j) 0) p
+
+-- i names stand one after the other from at up to p, each at its word of the index and in its row.
+pub record Spots (bytes ns ix : List ℕ) (at i p : ℕ) : Type 0 where
+  pub first : placeOf ix i p 0 ≡ at
+  pub item : (j : ℕ) → j < i
+      → name-entry (namesFrom ns 35 j) (placeOf ix i p j) (from (placeOf ix i p j) bytes) ≡ got (name (row ns (35 + j))) (placeOf ix i p (suc j)) (from (placeOf ix i p (suc j)) bytes)
 
 -- A table that holds m names of a file from row 35 on, no two equal, each with its form in the index.
 pub record Holds (ns ix : List ℕ) (m : ℕ) : Type 0 where
@@ -22,17 +33,18 @@ pub record Holds (ns ix : List ℕ) (m : ℕ) : Type 0 where
   pub apart : (j k : ℕ) → j < k → k < m → row ns (35 + j) ≡ row ns (35 + k) → ⊥
   pub forms : (j : ℕ) → j < m → FormWord (name (row ns (35 + j))) (getD ix (1_024 + j) 0)
 
--- All but rows 35 to 34 + m stand, and all of the index from word 2,048 on.
+-- All but rows 35 to 34 + m stand, and so do the words of the index for types, expressions and declarations.
 pub record Apart (ns ix ns′ ix′ : List ℕ) (m : ℕ) : Type 0 where
   pub low : (r : ℕ) → r < 35 → row ns′ r ≡ row ns r
   pub high : (r : ℕ) → 35 + m ≤ r → row ns′ r ≡ row ns r
-  pub index : (k : ℕ) → 2_048 ≤ k → getD ix′ k 0 ≡ getD ix k 0
+  pub index : (k : ℕ) → 2_048 ≤ k → k < 10_752 → getD ix′ k 0 ≡ getD ix k 0
 
 -- n names were read into the rows from 35 on.
 pub record ReadUpTo (bytes ns ix ns′ ix′ : List ℕ) (at n p : ℕ) : Type 0 where
   pub read : items name-entry n [] at (from at bytes) ≡ got (namesFrom ns′ 35 n) p (from p bytes)
   pub within : p ≤ length bytes
   pub holds : Holds ns′ ix′ n
+  pub spots : Spots bytes ns′ ix′ at n p
   pub apart : Apart ns ix ns′ ix′ n
 
 abbrev pub ReadAs : (bytes ns ix ns′ ix′ : List ℕ) (at n : ℕ) → Place → Type 0
@@ -67,16 +79,18 @@ pub record NameKnown (ns ix : List ℕ) (i : ℕ) (x : Name) : Type 0 where
   pub named : nameOf ns (getD ix i 0) ≡ x
   pub form : FormWord x (getD ix (1_024 + i) 0)
 
--- The names section was read up to the place p: the definition reads `list`, and table and index say the same of it.
+-- The names section was read up to the place p: the definition reads `list`, and table and index say the same of it; from
+-- word 10,752 on the index has the place of each name.
 pub record SectionRead (bytes ix ns′ ix′ : List ℕ) (at n p : ℕ) : Type 0 where
   pub list : List Name
   pub is : items name-entry n [] at (from at bytes) ≡ got list p (from p bytes)
   pub within : p ≤ length bytes
   pub many : count list ≡ n
   pub known : (i : ℕ) (x : Name) → nth list i ≡ some x → NameKnown ns′ ix′ i x
+  pub places : Placed bytes ix′ 10_752 name-entry list at p
   pub table : Names ns′
   pub built : BuiltIns ns′
-  pub stands : (k : ℕ) → 2_048 ≤ k → getD ix′ k 0 ≡ getD ix k 0
+  pub stands : (k : ℕ) → 2_048 ≤ k → k < 10_752 → getD ix′ k 0 ≡ getD ix k 0
 
 abbrev pub SectionAs : (bytes ix ns′ ix′ : List ℕ) (at n : ℕ) → Place → Type 0
 SectionAs bytes ix ns′ ix′ at n (Next p) = SectionRead bytes ix ns′ ix′ at n p

@@ -7,7 +7,7 @@ use rows::Built;
 use spelling::Form;
 ghost use mathlib.Core.Path.{_≡_};
 ghost use Prim.Native.Nat.{_+_, _*_, _<_, _≤_};
-ghost use lib.ListN.{length};
+ghost use lib.ListN.{length, set};
 ghost use Rattle.nametable.specs.Entries.{Spotted, Coded, Entered, Taken};
 ghost use Rattle.nametable.specs.Tables.{ReadAll, Bound, AllBound, NamesRead};
 
@@ -84,10 +84,19 @@ fn take(src: &[u8], names: &mut [u64], index: &mut [u64], at: usize, i: usize) -
     }
 }
 
+// Writes the place of the i-th name into the index.
+fn mark(index: &mut [u64], i: usize, at: usize)
+    requires { ⌜ i < 1024 ⌝ }
+    requires { ⌜ 10752 + i < length (now index) ⌝ }
+    ensures { λ _. ⌜ now (index .exit) ≡ set (now (index .entry)) (10752 + i) at ⌝ }
+{
+    index[10752 + i] = at as u64;
+}
+
 // Reads n names from a place on, up to the first bad one.
 fn read_all(src: &[u8], names: &mut [u64], index: &mut [u64], at: usize, n: usize) -> Place
     requires { ⌜ length (now names) ≡ 4236 ⌝ }
-    requires { ⌜ length (now index) ≡ 10752 ⌝ }
+    requires { ⌜ length (now index) ≡ 11776 ⌝ }
     requires { ⌜ n ≤ 1024 ⌝ }
     requires { ⌜ at ≤ length (now src) ⌝ }
     ensures { λ r. ⌜ ReadAll (now (src .entry)) (now (names .entry)) (now (index .entry)) (now (names .exit)) (now (index .exit)) at n r ⌝ }
@@ -95,6 +104,7 @@ fn read_all(src: &[u8], names: &mut [u64], index: &mut [u64], at: usize, n: usiz
     let mut p = at;
     let mut i: usize = 0;
     while i < n {
+        mark(index, i, p);
         let r = take(src, names, index, p, i);
         let Place::Next(q) = r else {
             return r;
@@ -125,7 +135,7 @@ fn bind(names: &mut [u64], index: &mut [u64], i: usize)
 // Writes the numbers of n names.
 fn bind_all(names: &mut [u64], index: &mut [u64], n: usize)
     requires { ⌜ length (now names) ≡ 4236 ⌝ }
-    requires { ⌜ length (now index) ≡ 10752 ⌝ }
+    requires { ⌜ length (now index) ≡ 11776 ⌝ }
     requires { ⌜ n ≤ 1024 ⌝ }
     ensures { λ _. ⌜ AllBound (now (names .entry)) (now (index .entry)) (now (names .exit)) (now (index .exit)) n ⌝ }
 {
@@ -136,10 +146,11 @@ fn bind_all(names: &mut [u64], index: &mut [u64], n: usize)
     }
 }
 
-// Reads the n names of the names section from a place on: the table of names, and of each name its number and its form.
+// Reads the n names of the names section from a place on: the table of names, and of each name its number, its form and its
+// place.
 pub fn read_names(src: &[u8], names: &mut [u64], index: &mut [u64], at: usize, n: usize) -> Place
     requires { ⌜ length (now names) ≡ 4236 ⌝ }
-    requires { ⌜ length (now index) ≡ 10752 ⌝ }
+    requires { ⌜ length (now index) ≡ 11776 ⌝ }
     requires { ⌜ n ≤ 1024 ⌝ }
     requires { ⌜ at ≤ length (now src) ⌝ }
     ensures { λ r. ⌜ NamesRead (now (src .entry)) (now (index .entry)) (now (names .exit)) (now (index .exit)) at n r ⌝ }

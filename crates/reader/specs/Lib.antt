@@ -1,2 +1,3 @@
 pub mod Bytes
 pub mod Verdicts
+pub mod Placing

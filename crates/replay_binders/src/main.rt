@@ -1,94 +1,20 @@
 // The scope document's case of two binders: a class Ord over Eq, and binders d0 of Eq and d1 of Ord at one type variable.
 // `simplify::simplify_context` keeps d1 and replaces d0 by a projection of it. Two steps are enough: for d1 itself, which is no
 // Eq, and for its superclass. With one step the answer is 6.
-use cores::Part;
 use simplify::Simplified;
-use supers::rows::Row;
 ghost use mathlib.Core.Path.{_≡_};
-ghost use mathlib.Core.Bool.{true};
-ghost use mathlib.Core.List.{_++_};
 ghost use Prim.Native.Nat.{_+_, _*_, _≤_};
 ghost use lib.ListN.{length};
 ghost use Rattle.names.specs.Names.{Names};
-ghost use Rattle.replay_binders.specs.Plain.{PlainRows};
-
-// Whether the type of each of the first n rows takes no node, and its dictionary has a word.
-fn are_plain(binders: &[u64], n: usize) -> bool
-    requires { ⌜ 3 * n ≤ length (now binders) ⌝ }
-    ensures { λ r. ⌜ (r ≡ true → PlainRows (now (binders .entry)) n) ⌝ }
-{
-    let mut j: usize = 0;
-    while j < n {
-        let r = supers::rows::row_at(binders, j);
-        match r {
-            Row::Pending(d, _, t) => {
-                if d >= names::FRESH {
-                    return false;
-                }
-                if t >= names::NODE {
-                    return false;
-                }
-            }
-            Row::Replaced(_, _) => {
-                return false;
-            }
-        }
-        j += 1;
-    }
-    true
-}
-
-// What a dictionary is; `self`, if it does not lie in the words.
-fn part(base: &[u64], work: &[u64], e: usize) -> Part {
-    if cases::say::is_there(base, work, e) {
-        return cores::part_at(base, work, e);
-    }
-    Part::Own
-}
-
-// Writes the dictionary that replaces a binder: a projection of another one.
-fn dictionary(base: &[u64], work: &[u64], names: &[u64], e: usize) {
-    let p = part(base, work, e);
-    let Part::Super(d, c, s) = p else {
-        return;
-    };
-    cases::say::text(b"(proj d");
-    if d >= names::FRESH {
-        cases::say::decimal(d - names::FRESH);
-    }
-    cases::say::text(b" __super_");
-    cases::say::name(names, c);
-    cases::say::text(b"__");
-    cases::say::name(names, s);
-    cases::say::text(b")");
-}
-
-// Writes what became of a row.
-fn row(base: &[u64], work: &[u64], names: &[u64], binders: &[u64], j: usize)
-    requires { ⌜ 3 * j + 3 ≤ length (now binders) ⌝ }
-{
-    cases::say::text(b" d");
-    let r = supers::rows::row_at(binders, j);
-    match r {
-        Row::Pending(d, _, _) => {
-            cases::say::decimal(d);
-            cases::say::text(b" stays");
-        }
-        Row::Replaced(d, e) => {
-            cases::say::decimal(d);
-            cases::say::text(b" is ");
-            dictionary(base, work, names, e);
-        }
-    }
-}
+ghost use Rattle.cases.specs.Typed.{TypedRows};
 
 // Writes what became of two rows.
 fn both(base: &[u64], work: &[u64], names: &[u64], binders: &[u64]) {
     if binders.len() < 6 {
         return;
     }
-    row(base, work, names, binders, 0);
-    row(base, work, names, binders, 1);
+    cases::binders::row(base, work, names, binders, 0);
+    cases::binders::row(base, work, names, binders, 1);
 }
 
 // Simplifies two binders with so many steps, and writes what became of them.
@@ -102,7 +28,7 @@ fn run(
 )
     requires { ⌜ length (now base) ≡ 0 ⌝ }
     requires { ⌜ Names (now names) ⌝ }
-    requires { ⌜ PlainRows (now binders) 2 ⌝ }
+    requires { ⌜ TypedRows 0 (now binders) 2 ⌝ }
     requires { ⌜ 6 ≤ length (now binders) ⌝ }
     requires { ⌜ 8 * left ≤ length (now work) ⌝ }
 {
@@ -133,7 +59,7 @@ fn tested(
     requires { ⌜ 8 * left ≤ length (now work) ⌝ }
 {
     if cases::rows::are_distinct(names) {
-        if are_plain(binders, 2) {
+        if cases::binders::are_typed(binders, 0, 2) {
             run(base, work, names, classes, binders, left);
         }
     }

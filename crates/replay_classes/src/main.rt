@@ -24,10 +24,10 @@
 // reference implementation of the scope document in Rust; for the test of overlap it declared an instance, and the steps
 // of its head's nodes were taken off. docs/TESTING.md says more.
 mod lists;
-mod ready;
 mod say;
 mod table;
 
+use cases::goals;
 use cases::input;
 use cases::nodes;
 use cases::rows;
@@ -37,7 +37,7 @@ ghost use mathlib.Core.Path.{_≡_};
 ghost use mathlib.Core.List.{_++_};
 ghost use lib.ListN.{length};
 ghost use Rattle.names.specs.Names.{Names};
-ghost use Rattle.replay_classes.specs.Posed.{Posed};
+ghost use Rattle.cases.specs.Posed.{Posed};
 
 // Resolves a goal of class c at t with 256 levels, or tests a head for overlap; all words for the stack.
 fn run(
@@ -100,7 +100,7 @@ fn answer(
     requires { ⌜ length (now base) ≡ 0 ⌝ }
     requires { ⌜ Names (now names) ⌝ }
 {
-    if ready::is_posed(base, work, insts, top, left, h, l, t) {
+    if goals::is_posed(base, work, insts, top, left, h, l, t) {
         run(base, work, names, classes, insts, op, top, left, h, l, c, t);
         cases::say::text(b"\n");
         return;

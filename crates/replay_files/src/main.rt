@@ -65,13 +65,13 @@ fn next_length() -> usize {
 }
 
 // Reads a file and says what it is.
-fn answer(src: &[u8], names: &mut [u64; 4236], index: &mut [u64; 10752]) {
+fn answer(src: &[u8], names: &mut [u64; 4236], index: &mut [u64; 11776]) {
     let r = file::read(src, names, index);
     say(r);
 }
 
 // One file. Answers whether to go on.
-fn one(buf: &mut [u8], names: &mut [u64; 4236], index: &mut [u64; 10752]) -> bool {
+fn one(buf: &mut [u8], names: &mut [u64; 4236], index: &mut [u64; 11776]) -> bool {
     let n = next_length();
     if buf.len() < n {
         return false;
@@ -85,7 +85,7 @@ fn one(buf: &mut [u8], names: &mut [u64; 4236], index: &mut [u64; 10752]) -> boo
 }
 
 // All files. Nothing says that the input ends, so the loop counts its turns down.
-fn all(buf: &mut [u8], names: &mut [u64; 4236], index: &mut [u64; 10752]) {
+fn all(buf: &mut [u8], names: &mut [u64; 4236], index: &mut [u64; 11776]) {
     let mut turns = u64::MAX;
     while turns > 0 && one(buf, names, index) {
         turns -= 1;
@@ -96,6 +96,6 @@ fn all(buf: &mut [u8], names: &mut [u64; 4236], index: &mut [u64; 10752]) {
 fn main() {
     let mut buf = [0u8; 65600];
     let mut names = [0u64; 4236];
-    let mut index = [0u64; 10752];
+    let mut index = [0u64; 11776];
     all(&mut buf, &mut names, &mut index);
 }

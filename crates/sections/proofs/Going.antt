@@ -21,7 +21,8 @@ use Rattle.nodes.proofs.Loops.{items-more, items-past}
 use Rattle.sections.specs.declared.Part.{Part}
 use Rattle.sections.specs.declared.Part.the-variants.{Types, Exprs, Decls}
 use Rattle.sections.specs.declared.Many.the-variants.{Read as Many-Read, Bad as Many-Bad}
-use Rattle.sections.specs.Parts.{PartOf, part-reader, baseOf, limitOf, NodeGives, Placed, ItemsAs, GivesItems, SectionAs, GivesSection}
+use Rattle.reader.specs.Placing.{Placed}
+use Rattle.sections.specs.Parts.{PartOf, part-reader, baseOf, limitOf, NodeGives, ItemsAs, GivesItems, SectionAs, GivesSection}
 use Rattle.sections.proofs.Places.{count-snoc, placed-none, placed-more}
 
 -- ## one item, by the section that it is of
@@ -65,12 +66,12 @@ pub record Going (bytes ix₀ ix : List ℕ) (n : Counts) (k : Part) (m at p i :
   pub low : (j : ℕ) → j < baseOf k → getD ix j 0 ≡ getD ix₀ j 0
   pub high : (j : ℕ) → baseOf k + m ≤ j → getD ix j 0 ≡ getD ix₀ j 0
   pub most : i ≤ m
-  pub long : length ix ≡ 10_752
+  pub long : length ix ≡ 11_776
   pub is : (s : Before) → Known ix₀ n s
       → (xs : List (PartOf k)) × (items (part-reader k s) m [] at (from at bytes) ≡ items (part-reader k s) (m - i) xs p (from p bytes))
       × (count xs ≡ i) × (p ≤ length bytes) × Placed bytes ix (baseOf k) (part-reader k s) xs at p
 
-pub going-first : (bytes ix : List ℕ) (n : Counts) (k : Part) (m at : ℕ) → at ≤ length bytes → length ix ≡ 10_752 → Going bytes ix ix n k m at at 0
+pub going-first : (bytes ix : List ℕ) (n : Counts) (k : Part) (m at : ℕ) → at ≤ length bytes → length ix ≡ 11_776 → Going bytes ix ix n k m at at 0
 unfolding count
 going-first bytes ix n k m at h len = record {
   low = λ j l. refl;
@@ -83,12 +84,12 @@ going-first bytes ix n k m at h len = record {
     whole : (m : ℕ) → m ≡ m - 0
     whole m = omega arith
 
-limit-low : (k : Part) → baseOf k + limitOf k ≤ 10_752
+limit-low : (k : Part) → baseOf k + limitOf k ≤ 11_776
 limit-low Types = omega arith
 limit-low Exprs = omega arith
 limit-low Decls = omega arith
 
-pub in-index : (k : Part) (m i b : ℕ) → m ≤ limitOf k → i < m → b ≡ baseOf k → b + i < 10_752
+pub in-index : (k : Part) (m i b : ℕ) → m ≤ limitOf k → i < m → b ≡ baseOf k → b + i < 11_776
 in-index k m i b h l e = let x = limit-low k in omega arith
 
 less : (m i : ℕ) → m - i - 1 ≡ m - (i + 1)

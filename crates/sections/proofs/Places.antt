@@ -13,7 +13,7 @@ use Rattle.meaning.specs.Reader.{Read, got, Reader, from}
 use Rattle.theorems.proofs.Tests.{yes?-of, no?-of}
 use Rattle.theorems.proofs.Grown.{nth-below, nth-last}
 use Rattle.reader.specs.Verdicts.{Passes}
-use Rattle.sections.specs.Parts.{upto, Placed}
+use Rattle.reader.specs.Placing.{upto, Placed}
 
 pub count-snoc : {A : Type 0} (xs : List A) (x : A) → count (xs ++ x ∷ []) ≡ suc (count xs)
 unfolding count

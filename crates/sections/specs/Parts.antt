@@ -12,6 +12,7 @@ use Rattle.errors.specs.Refusals.{refusalOf}
 use Rattle.reader.specs.declared.Place.{Place}
 use Rattle.reader.specs.declared.Place.the-variants.{Next, Bad}
 use Rattle.reader.specs.Verdicts.{Verdict}
+use Rattle.reader.specs.Placing.{Placed}
 use Rattle.nodes.specs.declared.Counts.{Counts}
 use Rattle.nodes.specs.Known.{Before, Known}
 use Rattle.sections.specs.declared.Part.{Part}
@@ -46,20 +47,6 @@ baseOf Decls = 10_240
 -- One item's verdict, whatever stands before it that the code knows.
 pub record NodeGives (bytes ix : List ℕ) (n : Counts) (k : Part) (i at : ℕ) (r : Place) : Type 0 where
   pub is : (s : Before) (xs : List (PartOf k)) → Known ix n s → count xs ≡ i → Verdict bytes (part-reader k s xs at (from at bytes)) r
-
--- The first so many.
-unfoldable pub upto : {A : Type 0} → ℕ → List A → List A
-upto zero xs = []
-upto (suc i) [] = []
-upto (suc i) (x ∷ xs) = x ∷ upto i xs
-
--- Where item i is read: it begins at its word of the index, and the next one where it ends.
-pub record Placed {A : Type 0} (bytes ix : List ℕ) (base : ℕ) (r : List A → Reader A) (xs : List A) (at end : ℕ) : Type 0 where
-  pub begins : ℕ → ℕ
-  pub first : begins 0 ≡ at
-  pub last : begins (count xs) ≡ end
-  pub word : (i : ℕ) → i < count xs → getD ix (base + i) 0 ≡ begins i
-  pub item : (i : ℕ) (x : A) → nth xs i ≡ some x → r (upto i xs) (begins i) (from (begins i) bytes) ≡ got x (begins (suc i)) (from (begins (suc i)) bytes)
 
 -- What m items of a section are read as: a list that ends at the place p, and each item's place; or a refusal.
 abbrev pub ItemsAs : {A : Type 0} → List ℕ → List ℕ → ℕ → (List A → Reader A) → ℕ → ℕ → Place → Type 0

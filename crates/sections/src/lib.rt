@@ -85,7 +85,7 @@ fn put(index: &mut [u64], i: usize, at: usize)
 // So many items of a section.
 fn items(src: &[u8], index: &mut [u64], at: usize, n: Counts, k: Part, m: usize) -> Place
     requires { ⌜ n .names ≤ 1024 ⌝ }
-    requires { ⌜ length (now index) ≡ 10752 ⌝ }
+    requires { ⌜ length (now index) ≡ 11776 ⌝ }
     requires { ⌜ m ≤ limitOf k ⌝ }
     requires { ⌜ at ≤ length (now src) ⌝ }
     ensures { λ r. ⌜ GivesItems (now (src .entry)) (now (index .entry)) (now (index .exit)) n k m at r ⌝ }
@@ -112,7 +112,7 @@ fn items(src: &[u8], index: &mut [u64], at: usize, n: Counts, k: Part, m: usize)
 // A section: its count, then its items.
 pub fn section(src: &[u8], index: &mut [u64], at: usize, n: Counts, k: Part) -> Many
     requires { ⌜ n .names ≤ 1024 ⌝ }
-    requires { ⌜ length (now index) ≡ 10752 ⌝ }
+    requires { ⌜ length (now index) ≡ 11776 ⌝ }
     ensures { λ r. ⌜ GivesSection (now (src .entry)) (now (index .entry)) (now (index .exit)) n k at r ⌝ }
 {
     let most = limit(k);

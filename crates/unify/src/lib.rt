@@ -1,4 +1,6 @@
 // Unification of 002 over words. The substitution is pairs that end where the stack ended.
+mod variable;
+
 use apply::Applied;
 use ast::Cell;
 use ast::Shape;
@@ -9,69 +11,16 @@ ghost use Prim.Native.Nat.{ℕ, _+_, _*_, _-_, _<_, _≤_};
 ghost use lib.ListN.{length};
 ghost use Rattle.meaning.specs.Subst as S;
 ghost use Rattle.meaning.specs.Unify as U;
-ghost use Rattle.names.specs.Names.{nameOf, tyvarOf};
+ghost use Rattle.names.specs.Names.{nameOf};
 ghost use Rattle.ast.specs.Table.{tree, list};
 ghost use Rattle.pairs.specs.Pairs.{subAt};
 ghost use Rattle.compose.specs.Answers.{GivesU, ReadyU, ReadyOne, ReadyArrow, ReadyJoin};
-ghost use Rattle.unify.specs.Unify.{apply-two, unify-one, Binds, GivesTwo};
+ghost use Rattle.unify.specs.Unify.{apply-two, unify-one, GivesTwo};
 
 // Two types' words, the first free node and the steps left; or a refusal.
 pub enum Two {
     Done(usize, usize, usize, usize),
     Refused(Refusal, usize, usize),
-}
-
-// `bind` of a variable to a type that is another one.
-fn bind_other(
-    base: &[u64],
-    work: &mut [u64],
-    names: &[u64],
-    top: usize,
-    left: usize,
-    sp: usize,
-    v: usize,
-    t: usize,
-) -> Applied
-    requires { ⌜ length (now base) ≤ 4 * top ⌝ }
-    requires { ⌜ Binds (now names) (now base ++ now work) top left sp t ⌝ }
-    ensures { λ r. ⌜ GivesU 0 2 (now (names .entry)) (now (base .entry) ++ now (work .entry)) (now (base .entry) ++ now (work .exit)) top left sp
-        (U.bind-other (tyvarOf (now (names .entry)) v) (tree (now (names .entry)) (now (base .entry) ++ now (work .entry)) t) left) r ⌝ }
-{
-    if ast::occurs_in(base, work, names, top, v, t) {
-        return Applied::Refused(Refusal::OccursCheck(v, t), top, left);
-    }
-    pairs::put(base, work, sp - 2, v);
-    pairs::put(base, work, sp - 1, t);
-    Applied::Done(1, top, left)
-}
-
-// `bind`: a variable against itself needs nothing.
-fn bind(
-    base: &[u64],
-    work: &mut [u64],
-    names: &[u64],
-    top: usize,
-    left: usize,
-    sp: usize,
-    v: usize,
-    t: usize,
-) -> Applied
-    requires { ⌜ length (now base) ≤ 4 * top ⌝ }
-    requires { ⌜ Binds (now names) (now base ++ now work) top left sp t ⌝ }
-    ensures { λ r. ⌜ GivesU 0 2 (now (names .entry)) (now (base .entry) ++ now (work .entry)) (now (base .entry) ++ now (work .exit)) top left sp
-        (U.bind (tyvarOf (now (names .entry)) v) (tree (now (names .entry)) (now (base .entry) ++ now (work .entry)) t) left) r ⌝ }
-{
-    let s = ast::shape_at(base, work, t);
-    match s {
-        Shape::Var(x) => {
-            if v == x {
-                return Applied::Done(0, top, left);
-            }
-            bind_other(base, work, names, top, left, sp, v, t)
-        }
-        Shape::Con(_, _) => bind_other(base, work, names, top, left, sp, v, t),
-        Shape::Arrow(_, _) => bind_other(base, work, names, top, left, sp, v, t),
-    }
 }
 
 // The k pairs that end at hi applied to x and to y.
@@ -286,14 +235,14 @@ pub fn unify(
     let p = ast::shape_at(base, work, s);
     let q = ast::shape_at(base, work, t);
     match p {
-        Shape::Var(x) => bind(base, work, names, top, l, sp, x, t),
+        Shape::Var(x) => variable::bind(base, work, names, top, l, sp, x, t),
         Shape::Con(c, xs) => match q {
-            Shape::Var(y) => bind(base, work, names, top, l, sp, y, s),
+            Shape::Var(y) => variable::bind(base, work, names, top, l, sp, y, s),
             Shape::Con(d, ys) => unify_con(base, work, names, top, l, e, sp, c, xs, d, ys),
             Shape::Arrow(_, _) => Applied::Refused(Refusal::UnificationFailure(s, t), top, l),
         },
         Shape::Arrow(a, b) => match q {
-            Shape::Var(y) => bind(base, work, names, top, l, sp, y, s),
+            Shape::Var(y) => variable::bind(base, work, names, top, l, sp, y, s),
             Shape::Con(_, _) => Applied::Refused(Refusal::UnificationFailure(s, t), top, l),
             Shape::Arrow(c, d) => unify_arrow(base, work, names, top, l, e, sp, a, b, c, d),
         },

@@ -6,7 +6,7 @@ use Prim.Native.Nat.{ℕ, zero, suc, _<_}
 use native.Mathlib.Omega.{arith}
 use Rattle.meaning.specs.Base.{nth}
 use Rattle.theorems.proofs.Tests.{none-some}
-use Rattle.sections.specs.Parts.{upto}
+use Rattle.reader.specs.Placing.{upto}
 use Rattle.views.specs.Numbers.{Named}
 
 nth-upto : {A : Type 0} (i : ℕ) (xs : List A) (v : ℕ) (x : A) → nth (upto i xs) v ≡ some x → (v < i) × (nth xs v ≡ some x)

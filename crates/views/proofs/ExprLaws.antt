@@ -16,7 +16,7 @@ use Rattle.theorems.proofs.Tests.{some-inj, none-some, eqb-of, no?-of}
 use Rattle.theorems.proofs.Grown.{nth-below}
 use Rattle.reader.specs.declared.Field.the-variants.{Is, Cut}
 use Rattle.reader.specs.Verdicts.{IsField}
-use Rattle.sections.specs.Parts.{upto}
+use Rattle.reader.specs.Placing.{upto}
 use Rattle.views.specs.declared.ExprNode.{ExprNode}
 use Rattle.views.specs.declared.ExprNode.the-variants.{Var, Int, Bool, Abs, App, Let, Nothing}
 use Rattle.views.specs.Numbers.{valueAt, numberAt}

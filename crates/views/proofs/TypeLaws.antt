@@ -9,7 +9,7 @@ use Rattle.meaning.specs.File.{var-node, con-node, arrow-node, type-node}
 use Rattle.theorems.proofs.Grown.{nth-below}
 use Rattle.reader.specs.declared.Field.the-variants.{Is, Cut}
 use Rattle.reader.specs.Verdicts.{IsField}
-use Rattle.sections.specs.Parts.{upto}
+use Rattle.reader.specs.Placing.{upto}
 use Rattle.views.specs.declared.TypeNode.{TypeNode}
 use Rattle.views.specs.declared.TypeNode.the-variants.{Var, Con, Arrow, Nothing}
 use Rattle.views.specs.Numbers.{numberAt, CountRead, NamedAll}

@@ -7,7 +7,7 @@ use Rattle.meaning.specs.Base.{nth}
 use Rattle.meaning.specs.Ast.{Name, named, Ty, Pred, Expr, ClassDecl, InstanceDecl, Decl, class-decl, instance-decl, let-decl, check-decl}
 use Rattle.meaning.specs.Reader.{got, Reader, from}
 use Rattle.meaning.specs.File.{decl-entry}
-use Rattle.sections.specs.Parts.{Placed}
+use Rattle.reader.specs.Placing.{Placed}
 use Rattle.views.specs.declared.Listed.{Listed}
 use Rattle.views.specs.declared.DeclNode.{DeclNode}
 use Rattle.views.specs.declared.DeclNode.the-variants.{Class, Instance, Let, Check, Nothing}

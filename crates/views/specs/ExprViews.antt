@@ -7,7 +7,7 @@ use Rattle.meaning.specs.Base.{nth}
 use Rattle.meaning.specs.Ast.{Name, Expr, evar, eint, ebool, eabs, eapp, elet}
 use Rattle.meaning.specs.Reader.{got, from}
 use Rattle.meaning.specs.File.{expr-node}
-use Rattle.sections.specs.Parts.{upto, Placed}
+use Rattle.reader.specs.Placing.{upto, Placed}
 use Rattle.views.specs.declared.ExprNode.{ExprNode}
 use Rattle.views.specs.declared.ExprNode.the-variants.{Var, Int, Bool, Abs, App, Let, Nothing}
 use Rattle.views.specs.Numbers.{Named}

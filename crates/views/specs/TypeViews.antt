@@ -7,7 +7,7 @@ use Rattle.meaning.specs.Base.{nth}
 use Rattle.meaning.specs.Ast.{Name, named, Ty, var, con, arrow}
 use Rattle.meaning.specs.Reader.{got, from}
 use Rattle.meaning.specs.File.{tys-of, type-node}
-use Rattle.sections.specs.Parts.{upto, Placed}
+use Rattle.reader.specs.Placing.{upto, Placed}
 use Rattle.views.specs.declared.TypeNode.{TypeNode}
 use Rattle.views.specs.declared.TypeNode.the-variants.{Var, Con, Arrow, Nothing}
 use Rattle.views.specs.Numbers.{Named, NamedAll}

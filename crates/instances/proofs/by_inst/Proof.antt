@@ -22,7 +22,7 @@ loop-holds : tie.Need-loop-holds Inv-loop μ-loop
 loop-holds c = going _ _ _ _ _ _ _
 
 try-instance-requires : tie.Need-try-instance-requires Inv-loop μ-loop
-try-instance-requires c κs = (c .before .before .before .before .before .before .before .pre .0, (going-ready (c .before .before .before .before .before .before .before .pre .1) (c .before .before .loop .inv), c .before .loop-test .taken))
+try-instance-requires c κs = (c .before .before .before .before .before .before .before .pre .0, (going-ready (c .before .before .before .before .before .before .before .pre .1) (c .before .before .loop .inv), (let h = c .before .loop-test .taken in omega arith)))
 
 enum-known-r : tie.Need-enum-known-r Inv-loop μ-loop
 enum-known-r c = search needs

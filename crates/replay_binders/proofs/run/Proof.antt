@@ -1,7 +1,7 @@
 -- What was tested is what `simplify_context` asks.
 use native.Mathlib.Omega.{arith}
 use lib.ListN.{length-append}
-use Rattle.replay_binders.proofs.Ready.{plain-ready}
+use Rattle.replay_binders.proofs.Ready.{rows-ready}
 use borrow.Author.Needs.{needs}
 use Rattle.replay_binders.proofs.run.Statement.{statement}
 use Rattle.replay_binders.proofs.run.Tie as tie
@@ -15,7 +15,7 @@ use Rattle.simplify.proofs.simplify_context.Reads as simplify-context-reads
 
 -- src/main.rt:105:9
 simplify-context-requires : tie.Need-simplify-context-requires
-simplify-context-requires c κs = (omega arith, plain-ready _ _ _ _ _ _ (c .before .before .before .before .before .before .before .pre .1 .0) (c .before .before .before .before .before .before .before .pre .1 .1 .0) (c .before .before .before .before .before .before .before .pre .1 .1 .1 .0) (c .before .before .before .before .before .before .before .pre .1 .1 .1 .1) (simp length-append (omega arith)))
+simplify-context-requires c κs = (omega arith, rows-ready _ _ _ _ _ _ (c .before .before .before .before .before .before .before .pre .1 .0) (c .before .before .before .before .before .before .before .pre .1 .1 .0) (c .before .before .before .before .before .before .before .pre .1 .1 .1 .0) (c .before .before .before .before .before .before .before .pre .1 .1 .1 .1) (simp length-append (omega arith)))
 
 -- src/main.rt:107:29
 enum-known-r : tie.Need-enum-known-r

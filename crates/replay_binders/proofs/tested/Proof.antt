@@ -6,7 +6,7 @@ use Rattle.replay_binders.proofs.tested.Tie as tie
 use Rattle.replay_binders.proofs.tested.Reads as reads
 use Rattle.replay_binders.proofs.tested.Lts as lts
 use Rattle.cases.proofs.rows.are_distinct.Reads as are-distinct-reads
-use Rattle.replay_binders.proofs.are_plain.Reads as are-plain-reads
+use Rattle.cases.proofs.binders.are_typed.Reads as are-typed-reads
 use Rattle.replay_binders.proofs.run.Reads as run-reads
 
 -- src/main.rt:135:8
@@ -14,12 +14,12 @@ are-distinct-requires : tie.Need-are-distinct-requires
 are-distinct-requires c κs = search needs
 
 -- src/main.rt:136:12
-are-plain-requires : tie.Need-are-plain-requires
-are-plain-requires c κs = search needs
+are-typed-requires : tie.Need-are-typed-requires
+are-typed-requires c κs = search needs
 
 -- src/main.rt:137:13
 run-requires : tie.Need-run-requires
-run-requires c κs = (c .before .before .before .before .before .before .before .before .before .before .before .before .pre .0, (c .before .before .before .before .before .before .are-distinct .ensures (c .before .before .before .before .before .if1 .taken), (c .before .before .before .are-plain .ensures (c .before .before .if2 .taken), (c .before .before .before .before .before .before .before .before .before .before .before .before .pre .1 .0, c .before .before .before .before .before .before .before .before .before .before .before .before .pre .1 .1))))
+run-requires c κs = (c .before .before .before .before .before .before .before .before .before .before .before .before .pre .0, (c .before .before .before .before .before .before .are-distinct .ensures (c .before .before .before .before .before .if1 .taken), (c .before .before .before .are-typed .ensures (c .before .before .if2 .taken), (c .before .before .before .before .before .before .before .before .before .before .before .before .pre .1 .0, c .before .before .before .before .before .before .before .before .before .before .before .before .pre .1 .1))))
 
 -- src/main.rt:123:1
 same-length : tie.Need-same-length
@@ -50,7 +50,7 @@ tested-spec =
     tie.close
     (tie.spec
     are-distinct-requires
-    are-plain-requires
+    are-typed-requires
     run-requires
     same-length
     same-length-2

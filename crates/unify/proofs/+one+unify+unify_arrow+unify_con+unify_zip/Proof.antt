@@ -28,7 +28,7 @@ use Rattle.unify.proofs.+one+unify+unify_arrow+unify_con+unify_zip.Lts-
 use Rattle.ast.proofs.cell_at.Reads as cell-at-reads
 use Rattle.ast.proofs.count_list.Reads as count-list-reads
 use Rattle.ast.proofs.shape_at.Reads as shape-at-reads
-use Rattle.unify.proofs.bind.Reads as bind-reads
+use Rattle.unify.proofs.variable.bind.Reads as bind-reads
 use Rattle.unify.proofs.both.Reads as both-reads
 use Rattle.unify.proofs.join.Reads as join-reads
 use Rattle.unify.proofs.+one+unify+unify_arrow+unify_con+unify_zip.{statement}
