@@ -6,14 +6,14 @@ use mathlib.Core.List.{List}
 use lib.ListN.{length, getD, set}
 use lib.Seq.{getD-set-same, getD-set-other}
 use borrow.Author.Tests.{lt-ltb}
-use Rattle.meaning.specs.Ast.{super, dict-app, dict-proj, dict-rec, _◃_}
+use Rattle.meaning.specs.Ast.{method, super, dict-app, dict-proj, dict-rec, _◃_}
 use Rattle.names.specs.Names.{first-node, nameOf}
 use Rattle.ast.specs.Table.{shape, cell, tree, ShapeBelow, CellBelow, Table, Node, pushed}
 use Rattle.ast.proofs.Laws.{kept-tree, kept-table}
 use Rattle.ast.proofs.NewNode.{Pushed, pushed-0, pushed-1, pushed-2, pushed-kept, pushed-node, pushed-cell, length-pushed}
 use Rattle.pairs.specs.Pairs.{Stands}
 use Rattle.pairs.proofs.Frames.{stands-then, pushed-stands, put-length, put-stands}
-use Rattle.cores.specs.declared.Part.the-variants.{DictApp, Super, Rec}
+use Rattle.cores.specs.declared.Part.the-variants.{DictApp, Method, Super, Rec}
 use Rattle.cores.specs.Parts.{nodePart, readPart, checked, partOf, pushedFour}
 use Rattle.cores.specs.Terms.{core, cores}
 use Rattle.cores.proofs.Parted.{part-at}
@@ -79,6 +79,20 @@ module _ {w w′ : List ℕ} {top : ℕ} (ns : List ℕ) (room : 4 * top + 4 ≤
         kept = K;
         node = N;
         is = core-of {r = Super x c s} ns N (sym (four-part w top 10 x c s e room ∙ rw l)) ∙ ap (λ y. dict-proj y (super (nameOf ns c) (nameOf ns s))) (kept-core ns K X);
+      }
+
+  -- A method in the dictionary x.
+  pub push-member : {x : ℕ} (m : ℕ) → Node w top x → w′ ≡ pushedFour w top 9 x m 0 → Pushed (core ns w′) w w′ top (dict-proj (core ns w x) (method (nameOf ns m)))
+  unfolding nodePart
+  push-member {x} m X e =
+      let K = four-stands w top 9 x m 0 e (4 * top + 4) (omega arith) .low in
+      let N = four-node w top 9 x m 0 e room (X .table) small tt tt in
+      let l = lt-ltb x (first-node + top) (X .below) in
+      record {
+        long = four-length w top 9 x m 0 e;
+        kept = K;
+        node = N;
+        is = core-of {r = Method x m} ns N (sym (four-part w top 9 x m 0 e room ∙ rw l)) ∙ ap (λ y. dict-proj y (method (nameOf ns m))) (kept-core ns K X);
       }
 
   -- The record of instance i.

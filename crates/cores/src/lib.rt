@@ -1,4 +1,4 @@
-// Core terms as words over the same tables as types: what a word says, and the nodes that resolution makes.
+// Core terms as words over the same tables as types: what a word says, and the nodes that inference and resolution make.
 use names::Kind;
 ghost use mathlib.Core.Path.{_≡_};
 ghost use mathlib.Core.List.{_++_};
@@ -26,8 +26,10 @@ pub enum Part {
     Rec(usize, usize, usize),
 }
 
-// The tags of the nodes that resolution makes.
+// The tags of the nodes that inference and resolution make.
 const APP: u64 = 8;
+
+const METHOD: u64 = 9;
 
 const SUPER: u64 = 10;
 
@@ -157,4 +159,13 @@ pub fn push_app(base: &[u64], work: &mut [u64], top: usize, f: usize, l: usize)
     ensures { λ _. ⌜ now (base .entry) ++ now (work .exit) ≡ pushedFour (now (base .entry) ++ now (work .entry)) top 8 f l 0 ⌝ }
 {
     push_four(base, work, top, APP, f, l, 0);
+}
+
+// Writes the node top: the method of name m in the dictionary e.
+pub fn push_method(base: &[u64], work: &mut [u64], top: usize, e: usize, m: usize)
+    requires { ⌜ length (now base) ≤ 4 * top ⌝ }
+    requires { ⌜ 4 * top + 4 ≤ length (now base ++ now work) ⌝ }
+    ensures { λ _. ⌜ now (base .entry) ++ now (work .exit) ≡ pushedFour (now (base .entry) ++ now (work .entry)) top 9 e m 0 ⌝ }
+{
+    push_four(base, work, top, METHOD, e, m, 0);
 }
