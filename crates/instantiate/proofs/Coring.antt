@@ -28,9 +28,9 @@ use Rattle.classes.specs.declared.Method.{Method}
 use Rattle.classes.specs.declared.Method.the-variants.{Of, Nothing as No-method}
 use Rattle.simplify.proofs.RowSets.{row-words}
 use Rattle.instantiate.specs.Looks.{FindsFirst, ReadyCore, Lists, GivesCored, NamesRight}
-use Rattle.instantiate.specs.declared.Sought.{Sought}
-use Rattle.instantiate.specs.declared.Sought.the-variants.{At, Nothing}
-use Rattle.instantiate.specs.declared.Cored.the-variants.{Done as Made, Nothing as Unmade}
+use Rattle.instantiate.specs.declared.term.Sought.{Sought}
+use Rattle.instantiate.specs.declared.term.Sought.the-variants.{At, Nothing}
+use Rattle.instantiate.specs.declared.term.Cored.the-variants.{Done as Made, Nothing as Unmade}
 use Rattle.instantiate.proofs.Finding.{of-class, found-from, none-from}
 
 -- The word of a name.

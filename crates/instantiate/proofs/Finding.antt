@@ -17,7 +17,7 @@ use Rattle.supers.specs.Rows.{bindersFrom}
 use Rattle.simplify.proofs.RowSets.{row-words}
 use Rattle.instantiate.specs.Instance.{Rows}
 use Rattle.instantiate.specs.Looks.{NoneOf, FirstIs, FindsFirst}
-use Rattle.instantiate.specs.declared.Sought.the-variants.{At, Nothing}
+use Rattle.instantiate.specs.declared.term.Sought.the-variants.{At, Nothing}
 
 -- ## The loop
 

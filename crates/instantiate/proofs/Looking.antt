@@ -32,8 +32,8 @@ use Rattle.instantiate.specs.Instance.{state, ReadyInstance, Instantiate
 use Rattle.instantiate.specs.Looks.{ReadyCore, Builds, GivesCored, ReadyLook, Same, HasScheme, LookedAs, GivesLooked}
 use Rattle.instantiate.specs.declared.Instance.{Instance}
 use Rattle.instantiate.specs.declared.Instance.the-variants.{Done as Got, Refused as Ungot}
-use Rattle.instantiate.specs.declared.Cored.{Cored}
-use Rattle.instantiate.specs.declared.Cored.the-variants.{Done as Made, Nothing as Unmade}
+use Rattle.instantiate.specs.declared.term.Cored.{Cored}
+use Rattle.instantiate.specs.declared.term.Cored.the-variants.{Done as Made, Nothing as Unmade}
 use Rattle.instantiate.specs.declared.Looked.{Looked}
 use Rattle.instantiate.specs.declared.Looked.the-variants.{Done, Refused}
 use Rattle.instantiate.proofs.RowWords.{waits-type}

@@ -21,10 +21,10 @@ use Rattle.supers.specs.Rows.{bindersIn}
 use Rattle.classes.specs.Method.{Methods}
 use Rattle.scope.specs.Scope.{Scope}
 use Rattle.instantiate.specs.Instance.{state, Rows}
-use Rattle.instantiate.specs.declared.Sought.{Sought}
-use Rattle.instantiate.specs.declared.Sought.the-variants.{At, Nothing}
-use Rattle.instantiate.specs.declared.Cored.{Cored}
-use Rattle.instantiate.specs.declared.Cored.the-variants.{Done as Made, Nothing as Unmade}
+use Rattle.instantiate.specs.declared.term.Sought.{Sought}
+use Rattle.instantiate.specs.declared.term.Sought.the-variants.{At, Nothing}
+use Rattle.instantiate.specs.declared.term.Cored.{Cored}
+use Rattle.instantiate.specs.declared.term.Cored.the-variants.{Done as Made, Nothing as Unmade}
 use Rattle.instantiate.specs.declared.Looked.{Looked}
 use Rattle.instantiate.specs.declared.Looked.the-variants.{Done, Refused}
 

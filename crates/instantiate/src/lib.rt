@@ -1,15 +1,18 @@
-// `instantiate` of 000 over words: a scheme's type and predicates over made variables, and a row for each predicate.
+// `instantiate` and `infer_var` of 000 over words: a scheme's type and predicates over made variables, a row for each
+// predicate, and the term that uses them.
+mod term;
+
 use apply::Applied;
 use ast::Cell;
-use classes::Method;
 use errors::Refusal;
 use scope::Entry;
+use term::Cored;
 ghost use mathlib.Core.Path.{_≡_};
 ghost use mathlib.Core.List.{_++_};
 ghost use Prim.Native.Nat.{_+_, _*_, _<_, _≤_};
 ghost use lib.ListN.{length};
 ghost use Rattle.instantiate.specs.Instance.{withWords, ReadyPreds, GivesTaken, ReadyInstance, GivesInstance};
-ghost use Rattle.instantiate.specs.Looks.{FindsFirst, ReadyCore, Lists, GivesCored, ReadyLook, HasScheme, Same, GivesLooked};
+ghost use Rattle.instantiate.specs.Looks.{ReadyLook, HasScheme, Same, GivesLooked};
 ghost use Rattle.names.specs.Names.{nameOf, first-fresh};
 ghost use Rattle.subst.specs.Schemes.{schemeOf};
 ghost use Rattle.scope.specs.Scope.{envOf};
@@ -24,18 +27,6 @@ pub enum Taken {
 pub enum Instance {
     Done(usize, usize, usize, usize, usize, usize),
     Refused(Refusal, usize, usize),
-}
-
-// A dictionary's number, if there is one.
-pub enum Sought {
-    At(usize),
-    Nothing,
-}
-
-// A term's word and the first free node, if there is one.
-pub enum Cored {
-    Done(usize, usize),
-    Nothing,
 }
 
 // A type's word, a term's word, how many rows, the first free node, the steps left and both counters; or a refusal.
@@ -144,88 +135,6 @@ pub fn instantiate(
     }
 }
 
-// The dictionary's number of the first of m rows that is of class c.
-fn first_of(binders: &[u64], m: usize, c: usize) -> Sought
-    requires { ⌜ 3 * m ≤ length (now binders) ⌝ }
-    ensures { λ r. ⌜ FindsFirst (now (binders .entry)) m c r ⌝ }
-{
-    let mut j: usize = 0;
-    while j < m {
-        if binders[3 * j + 1] as usize == c {
-            return Sought::At(binders[3 * j] as usize);
-        }
-        j += 1;
-    }
-    Sought::Nothing
-}
-
-// The list of the dictionaries of m rows, built from the last to the first.
-fn rows_list(
-    base: &[u64],
-    work: &mut [u64],
-    names: &[u64],
-    binders: &[u64],
-    top: usize,
-    dv: usize,
-    m: usize,
-    x: usize,
-) -> usize
-    requires { ⌜ length (now base) ≤ 4 * top ⌝ }
-    requires { ⌜ ReadyCore (now names) (now base ++ now work) (now binders) top dv m x ⌝ }
-    ensures { λ r. ⌜ Lists (now (base .entry) ++ now (work .entry)) (now (base .entry) ++ now (work .exit)) (now (binders .entry)) top m r ⌝ }
-{
-    let mut l = ast::NIL;
-    let mut j = m;
-    let mut t = top;
-    while j > 0 {
-        j -= 1;
-        let d = binders[3 * j] as usize;
-        ast::push(base, work, t, 3, names::FRESH + d, l);
-        l = names::NODE + t;
-        t += 1;
-    }
-    l
-}
-
-// The term of name x over m rows: a method of the first row of its class, or the name applied to all of them.
-fn var_core(
-    base: &[u64],
-    work: &mut [u64],
-    names: &[u64],
-    methods: &[u64],
-    binders: &[u64],
-    top: usize,
-    dv: usize,
-    m: usize,
-    x: usize,
-) -> Cored
-    requires { ⌜ length (now base) ≤ 4 * top ⌝ }
-    requires { ⌜ ReadyCore (now names) (now base ++ now work) (now binders) top dv m x ⌝ }
-    ensures { λ r. ⌜ GivesCored (now (names .entry)) (now (base .entry) ++ now (work .entry)) (now (base .entry) ++ now (work .exit)) (now (binders .entry)) (now (methods .entry)) top m x r ⌝ }
-{
-    let k = classes::lookup_method(methods, x);
-    match k {
-        Method::Of(c, _) => {
-            let s = first_of(binders, m, c);
-            match s {
-                Sought::At(d) => {
-                    cores::push_method(base, work, top, names::FRESH + d, x);
-                    Cored::Done(names::NODE + top, top + 1)
-                }
-                Sought::Nothing => Cored::Nothing,
-            }
-        }
-        Method::Nothing => {
-            if m == 0 {
-                return Cored::Done(x, top);
-            }
-            let l = rows_list(base, work, names, binders, top, dv, m, x);
-            cores::push_app(base, work, top + m, x, l);
-            Cored::Done(names::NODE + (top + m), top + m + 1)
-        }
-    }
-}
-
 // The instance of the scheme of name x, and its term.
 fn of_scheme(
     base: &[u64],
@@ -252,7 +161,7 @@ fn of_scheme(
     let r = instantiate(base, work, names, binders, top, left, sp, tv, dv, vs, ps, t);
     match r {
         Instance::Done(u, m, t2, l2, tv2, dv2) => {
-            let q = var_core(base, work, names, methods, binders, t2, dv, m, x);
+            let q = term::var_core(base, work, names, methods, binders, t2, dv, m, x);
             match q {
                 Cored::Done(e, t3) => Looked::Done(u, e, m, t3, l2, tv2, dv2),
                 Cored::Nothing => Looked::Refused(Refusal::UnknownMethod(x), t2, l2),

@@ -4,8 +4,8 @@ use native.Mathlib.Omega.{arith}
 use borrow.Author.Needs.{needs}
 use Rattle.compose.proofs.Pieces.{same-short}
 use Rattle.instantiate.proofs.Listing.{Listing, listing, listed, dict-small, list-room, lists-on}
-use Rattle.instantiate.proofs.rows_list.Statement.{statement}
-use Rattle.instantiate.proofs.rows_list.Tie as tie
+use Rattle.instantiate.proofs.term.rows_list.Statement.{statement}
+use Rattle.instantiate.proofs.term.rows_list.Tie as tie
 
 abbrev Inv-loop : tie.InvT-loop
 Inv-loop base work₀ names binders top dv m x l₀ j₀ t₀ work l j t = Listing (base ++ work₀) (base ++ work) binders top m l j t

@@ -3,8 +3,8 @@ use native.Mathlib.Omega.{arith}
 use Rattle.pairs.proofs.Frames.{long}
 use Rattle.instantiate.proofs.Coring.{found-small, method-done, method-none, name-done, app-room, app-done}
 use borrow.Author.Needs.{needs}
-use Rattle.instantiate.proofs.var_core.Statement.{statement}
-use Rattle.instantiate.proofs.var_core.Tie as tie
+use Rattle.instantiate.proofs.term.var_core.Statement.{statement}
+use Rattle.instantiate.proofs.term.var_core.Tie as tie
 
 lookup-method-requires : tie.Need-lookup-method-requires
 lookup-method-requires c κs = search needs

@@ -4,8 +4,8 @@ use native.Mathlib.Omega.{arith}
 use borrow.Author.Needs.{needs}
 use Rattle.instantiate.specs.Looks.{NoneOf}
 use Rattle.instantiate.proofs.Finding.{none-yet, none-more, first-found, first-none}
-use Rattle.instantiate.proofs.first_of.Statement.{statement}
-use Rattle.instantiate.proofs.first_of.Tie as tie
+use Rattle.instantiate.proofs.term.first_of.Statement.{statement}
+use Rattle.instantiate.proofs.term.first_of.Tie as tie
 
 abbrev Inv-loop : tie.InvT-loop
 Inv-loop binders m c j₀ j = NoneOf binders c j
