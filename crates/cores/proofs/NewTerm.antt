@@ -69,20 +69,6 @@ module _ {w′ : List ℕ} (w : List ℕ) (top tag a b d : ℕ) (e : w′ ≡ pu
 
 -- What the writers make, w′ being the words after them.
 module _ {w w′ : List ℕ} {top : ℕ} (ns : List ℕ) (room : 4 * top + 4 ≤ length w) (small : top < first-node) where
-  -- A function of the name x.
-  pub push-lambda : {b : ℕ} (x : ℕ) → Node w top b → w′ ≡ pushedFour w top 4 x b 0 → Pushed (core ns w′) w w′ top (cabs (nameOf ns x) (core ns w b))
-  unfolding nodePart
-  push-lambda {b} x X e =
-      let K = four-stands w top 4 x b 0 e (4 * top + 4) (omega arith) .low in
-      let N = four-node w top 4 x b 0 e room (X .table) small tt tt in
-      let l = lt-ltb b (first-node + top) (X .below) in
-      record {
-        long = four-length w top 4 x b 0 e;
-        kept = K;
-        node = N;
-        is = core-of {r = Abs x b} ns N (sym (four-part w top 4 x b 0 e room ∙ rw l)) ∙ ap (cabs (nameOf ns x)) (kept-core ns K X);
-      }
-
   -- A number.
   pub push-number : (v : ℕ) → Table w top → w′ ≡ pushedFour w top 12 v 0 0 → Pushed (core ns w′) w w′ top (cint v)
   unfolding nodePart

@@ -27,8 +27,6 @@ pub enum Part {
 }
 
 // The tags of the nodes that inference and resolution make.
-const LAMBDA: u64 = 4;
-
 const ABS: u64 = 4;
 
 const CALL: u64 = 5;
@@ -144,15 +142,6 @@ fn push_four(base: &[u64], work: &mut [u64], top: usize, tag: u64, a: usize, b: 
 {
     pairs::put(base, work, 4 * top + 3, d);
     ast::push(base, work, top, tag, a, b);
-}
-
-// Writes the node top: the function of the name x with the body e.
-pub fn push_lambda(base: &[u64], work: &mut [u64], top: usize, x: usize, e: usize)
-    requires { ⌜ length (now base) ≤ 4 * top ⌝ }
-    requires { ⌜ 4 * top + 4 ≤ length (now base ++ now work) ⌝ }
-    ensures { λ _. ⌜ now (base .entry) ++ now (work .exit) ≡ pushedFour (now (base .entry) ++ now (work .entry)) top 4 x e 0 ⌝ }
-{
-    push_four(base, work, top, LAMBDA, x, e, 0);
 }
 
 // Writes the node top: the number v.

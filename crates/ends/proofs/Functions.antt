@@ -23,7 +23,7 @@ use Rattle.unify.proofs.Outcomes.{apply-spends}
 use Rattle.cores.specs.Parts.{pushedFour}
 use Rattle.cores.specs.Terms.{core}
 use Rattle.cores.proofs.TermLaws.{kept-core}
-use Rattle.cores.proofs.NewTerm.{four-stands, push-lambda}
+use Rattle.cores.proofs.NewTerm.{four-stands, push-function}
 use Rattle.ends.specs.Ends.{abs-ended, ReadyAbs, GivesAbs}
 use Rattle.ends.specs.declared.Ended.the-variants.{Done, Refused}
 
@@ -70,7 +70,7 @@ module _ {ns w : List ℕ} {top left sp k a t e : ℕ} (R : ReadyAbs ns w top le
         pub abs-lambda : {w₃ : List ℕ} → w₃ ≡ pushedFour w₂ (n + 1) 4 x e 0 → Pushed (core ns w₃) w₂ w₃ (n + 1) (cabs (nameOf ns x) (core ns w₂ e))
         abs-lambda q =
             let P = abs-arrow in let y = P .long in let b = abs-room .1 .0 in let c = abs-room .1 .1 in let m = took .1 in
-            push-lambda ns (omega arith) c x (node-more (P .node .table) (omega arith) (R .term)) q
+            push-function ns (omega arith) c x (node-more (P .node .table) (omega arith) (R .term)) q
 
         -- Both are the answer.
         pub abs-done : {w₃ : List ℕ} → w₃ ≡ pushedFour w₂ (n + 1) 4 x e 0 → GivesAbs ns w w₃ top left whole (Done (first-node + n) (first-node + (n + 1)) (n + 1 + 1) l)

@@ -51,7 +51,7 @@ pub fn abs_end(
         Applied::Done(u, n, l) => {
             ast::push(base, work, n, 2, u, t);
             let m = n + 1;
-            cores::push_lambda(base, work, m, x, e);
+            cores::push_abs(base, work, m, x, e);
             Ended::Done(names::NODE + n, names::NODE + m, m + 1, l)
         }
         Applied::Refused(f, n, l) => Ended::Refused(f, n, l),

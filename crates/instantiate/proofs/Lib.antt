@@ -2,3 +2,7 @@
 pub mod RowWords
 pub mod Taking
 pub mod Making
+pub mod Finding
+pub mod Listing
+pub mod Coring
+pub mod Looking

@@ -1,18 +1,18 @@
 -- The ways out of `instantiate`, from what the calls gave.
 use mathlib.Core.Path.{_≡_, refl, ap, sym, _∙_}
-use mathlib.Core.List.{List, [], _∷_}
-use Prim.Native.Nat.{ℕ, zero, suc, _+_, _*_, _-_, _<_, _≤_}
+use mathlib.Core.List.{List, []}
+use Prim.Native.Nat.{ℕ, zero, suc, _+_, _-_, _<_, _≤_}
 use native.Mathlib.Omega.{arith}
 use lib.ListN.{length}
 use Rattle.meaning.specs.Base.{count}
-use Rattle.meaning.specs.Ast.{Ty, nil, _◂_, count-tys, size, Scheme}
+use Rattle.meaning.specs.Ast.{Ty, count-tys, Scheme}
 use Rattle.meaning.specs.Budget.{Out, Steps, done, refused, after}
-use Rattle.meaning.specs.Subst.{Subst, apply-in}
+use Rattle.meaning.specs.Subst.{apply-in}
 use Rattle.meaning.specs.Generalize.{Pending, Env}
 use Rattle.meaning.specs.Infer.{State, instantiate-preds, instantiate}
 use Rattle.meaning.specs.Declare.{pred-nodes}
 use Rattle.meaning.specs.Session.{scheme-nodes}
-use Rattle.names.specs.Names.{Names, first-fresh, first-node}
+use Rattle.names.specs.Names.{first-fresh}
 use Rattle.ast.specs.Table.{cellOf, tree, list, Node, Counted}
 use Rattle.ast.specs.declared.Cell.{Cell}
 use Rattle.ast.specs.declared.Cell.the-variants.{Nil, Cons}
@@ -26,15 +26,14 @@ use Rattle.apply.specs.declared.Applied.{Applied}
 use Rattle.apply.specs.declared.Applied.the-variants.{Done as Renamed, Refused as Unnamed}
 use Rattle.apply.proofs.Hand.{Then, then-done, refuse-on}
 use Rattle.rename.specs.Renaming.{Renames, freshened}
-use Rattle.rename.specs.Renamed.{ReadyRename, Renews, TypeRenamed}
+use Rattle.rename.specs.Renamed.{ReadyRename, TypeRenamed}
 use Rattle.rename.proofs.Arms.{renames-then}
 use Rattle.rename.proofs.Ways.{gave}
 use Rattle.rename.proofs.Freshly.{with-made, fresh-is, fresh-renames}
 use Rattle.subst.specs.Preds.{predsOf}
 use Rattle.subst.specs.Schemes.{schemeOf}
 use Rattle.subst.proofs.PredLaws.{kept-preds}
-use Rattle.supers.specs.Rows.{bindersIn}
-use Rattle.instantiate.specs.Instance.{state, ReadyPreds, Takes, GivesTaken, ReadyInstance, Instantiates, GivesInstance}
+use Rattle.instantiate.specs.Instance.{state, ReadyPreds, Takes, GivesTaken, ReadyInstance, GivesInstance}
 use Rattle.instantiate.specs.declared.Taken.{Taken}
 use Rattle.instantiate.specs.declared.Taken.the-variants.{Done as Took, Refused as Untaken}
 use Rattle.instantiate.specs.declared.Instance.the-variants.{Done, Refused}

@@ -1,16 +1,16 @@
 -- Laws of a row that is written, and of rows that wait.
-use mathlib.Core.Path.{_≡_, refl, ap, sym, _∙_}
+use mathlib.Core.Path.{_≡_, ap, _∙_}
 use mathlib.Core.List.{List, [], _∷_, _++_}
 use Prim.Native.Nat.{ℕ, suc, _+_, _*_, _-_, _<_, _≤_}
 use native.Mathlib.Decide.{ℕ-discrete}
 use native.Mathlib.Omega.{arith}
 use lib.ListN.{length, getD, set, length-set}
 use lib.Seq.{getD-set-same, getD-set-other}
-use Rattle.meaning.specs.Ast.{dvar, pred, Binder}
+use Rattle.meaning.specs.Ast.{dvar, pred}
 use Rattle.names.specs.Names.{nameOf}
-use Rattle.ast.specs.Table.{tree, Table, Node, Kept}
+use Rattle.ast.specs.Table.{tree, Node, Kept}
 use Rattle.ast.proofs.Laws.{node-more}
-use Rattle.supers.specs.Rows.{rowAt, withRow, bindersFrom, bindersIn, TypeIn}
+use Rattle.supers.specs.Rows.{rowAt, bindersIn, TypeIn}
 use Rattle.supers.specs.declared.rows.Row.the-variants.{Pending}
 use Rattle.supers.proofs.RowLaws.{row-open, kept-rows}
 use Rattle.simplify.proofs.RowSets.{same-row, same-rows, binders-snoc}
@@ -36,17 +36,19 @@ module _ {bs′ : List ℕ} (bs : List ℕ) (j d c x : ℕ) (is : bs′ ≡ with
       (word-other (3 * i + 2) (λ h. omega arith) (λ h. omega arith) (λ h. n (omega arith)))
 
   module _ (room : 3 * j + 3 ≤ length bs) (small : c < 65536) where
-    -- The three words.
+    -- The row's first word.
     first-word : getD bs′ (3 * j) 0 ≡ d
     unfolding withWords
     first-word = rw is (getD-set-other (set (set bs (3 * j) d) (3 * j + 1) c) (3 * j + 2) (3 * j) x 0 (omega arith)
         ∙ getD-set-other (set bs (3 * j) d) (3 * j + 1) (3 * j) c 0 (omega arith) ∙ getD-set-same bs (3 * j) d 0 (omega arith))
 
+    -- Its second.
     second-word : getD bs′ (3 * j + 1) 0 ≡ c
     unfolding withWords
     second-word = rw is (getD-set-other (set (set bs (3 * j) d) (3 * j + 1) c) (3 * j + 2) (3 * j + 1) x 0 (omega arith)
         ∙ getD-set-same (set bs (3 * j) d) (3 * j + 1) c 0 (simp length-set (omega arith)))
 
+    -- Its third.
     third-word : getD bs′ (3 * j + 2) 0 ≡ x
     unfolding withWords
     third-word = rw is (getD-set-same (set (set bs (3 * j) d) (3 * j + 1) c) (3 * j + 2) x 0 (simp length-set (omega arith)))

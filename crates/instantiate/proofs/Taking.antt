@@ -11,21 +11,20 @@ use Rattle.meaning.specs.Subst.{Subst, apply-in, apply-pred}
 use Rattle.meaning.specs.Generalize.{Pending, Env}
 use Rattle.meaning.specs.Infer.{State, fresh-dictvar, instantiate-preds}
 use Rattle.meaning.specs.Declare.{pred-nodes}
-use Rattle.names.specs.Names.{Names, first-fresh, first-node, nameOf}
+use Rattle.names.specs.Names.{first-fresh, first-node, nameOf}
 use Rattle.ast.specs.Table.{cellOf, tree, Node}
 use Rattle.ast.specs.declared.Cell.{Cell}
 use Rattle.ast.specs.declared.Cell.the-variants.{Nil, Cons}
 use Rattle.ast.proofs.Ranges.{cons-node}
 use Rattle.ast.proofs.Laws.{kept-cell, cons-head, cons-tail, node-more}
 use Rattle.errors.specs.declared.Refusal.{Refusal}
-use Rattle.errors.specs.Refusals.{Refuses}
 use Rattle.pairs.specs.Pairs.{Stands}
 use Rattle.pairs.proofs.Frames.{stands-refl, stands-then, stands-up}
 use Rattle.apply.specs.declared.Applied.{Applied}
 use Rattle.apply.specs.declared.Applied.the-variants.{Done, Refused}
 use Rattle.apply.proofs.Hand.{Then, then-done, refuse-on}
 use Rattle.rename.specs.Renaming.{Renames, leaves}
-use Rattle.rename.specs.Renamed.{ReadyRename, Renews, GivesRenamed, TypeRenamed}
+use Rattle.rename.specs.Renamed.{ReadyRename, GivesRenamed, TypeRenamed}
 use Rattle.rename.proofs.Arms.{type-before}
 use Rattle.rename.proofs.Ways.{gave}
 use Rattle.subst.specs.Preds.{classAt, predsOf}
@@ -33,7 +32,7 @@ use Rattle.subst.proofs.PredLaws.{preds-nil, preds-cons}
 use Rattle.supers.specs.Rows.{bindersFrom, bindersIn}
 use Rattle.scope.specs.Scope.{Smalls}
 use Rattle.scope.proofs.Fines.{small-number, small-head, small-tail}
-use Rattle.instantiate.specs.Instance.{state, withWords, Rows, ReadyPreds, Takes, GivesTaken}
+use Rattle.instantiate.specs.Instance.{state, withWords, Rows, ReadyPreds, GivesTaken}
 use Rattle.instantiate.specs.declared.Taken.the-variants.{Done as Took, Refused as Untaken}
 use Rattle.instantiate.proofs.RowWords.{words-long, no-rows, rows-more, binders-more}
 

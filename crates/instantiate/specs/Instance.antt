@@ -3,10 +3,9 @@ use mathlib.Core.Path.{_≡_}
 use mathlib.Core.List.{List, []}
 use Prim.Native.Nat.{ℕ, _+_, _*_, _<_, _≤_}
 use lib.ListN.{length, set}
-use Rattle.meaning.specs.Ast.{Ty}
-use Rattle.meaning.specs.Budget.{Out, done}
+use Rattle.meaning.specs.Budget.{done}
 use Rattle.meaning.specs.Subst.{Subst}
-use Rattle.meaning.specs.Generalize.{Pending, Env}
+use Rattle.meaning.specs.Generalize.{Env}
 use Rattle.meaning.specs.Infer.{State, instantiate-preds, instantiate}
 use Rattle.meaning.specs.Declare.{pred-nodes}
 use Rattle.names.specs.Names.{Names, first-fresh}

@@ -4,8 +4,8 @@ use mathlib.Core.List.{List}
 use Prim.Native.Nat.{ℕ, suc, _+_, _*_, _-_, _≤_}
 use native.Mathlib.Omega.{arith}
 use lib.ListN.{length}
-use Rattle.meaning.specs.Ast.{var, con, arrow, nil, _◂_, size, sizes}
-use Rattle.meaning.specs.Budget.{Out, done}
+use Rattle.meaning.specs.Ast.{var, nil, size, sizes}
+use Rattle.meaning.specs.Budget.{Out}
 use Rattle.meaning.specs.Subst.{Subst, each, apply-in}
 use Rattle.names.specs.Names.{tyvarOf}
 use Rattle.ast.specs.Table.{shapeOf, cellOf, tree, list, Node, Kept}
@@ -15,14 +15,13 @@ use Rattle.ast.specs.declared.Cell.{Cell}
 use Rattle.ast.specs.declared.Cell.the-variants.{Nil, Cons}
 use Rattle.ast.proofs.Laws.{tree-var, tree-con, tree-arrow, list-nil, list-cons, var-is, var-node, low-node, low-var, low-list, kept-tree, kept-list, node-more}
 use Rattle.errors.specs.declared.Refusal.the-variants.{Steps, Depth}
-use Rattle.pairs.specs.Pairs.{Stands}
 use Rattle.pairs.proofs.Frames.{stands-refl}
 use Rattle.apply.specs.declared.Applied.{Applied}
 use Rattle.apply.specs.declared.Applied.the-variants.{Done, Refused}
 use Rattle.apply.proofs.Hand.{refuse-here}
 use Rattle.apply.proofs.Arms.{no-depth, no-steps, at-var, at-nullary, at-nil}
 use Rattle.rename.specs.Renaming.{renamedWord, Renames, leaves, leaves-list}
-use Rattle.rename.specs.Renamed.{Renaming, ReadyRename, Renews, RenamedAs, GivesRenamed, TypeRenamed, ListRenamed}
+use Rattle.rename.specs.Renamed.{Renaming, ReadyRename, RenamedAs, GivesRenamed, TypeRenamed, ListRenamed}
 use Rattle.rename.proofs.Places.{kept-renamed, Becomes, stays, changes, becomes}
 use Rattle.rename.proofs.Leaves.{leaves-size, leaves-sizes}
 

@@ -3,26 +3,25 @@ use Prim.Native.Nat.{ℕ, zero, suc, _+_, _-_, _<_}
 use native.Mathlib.Decide.{ℕ-discrete}
 use native.Mathlib.Omega.{arith}
 use mathlib.Core.Path.{_≡_, refl, ap, sym, _∙_}
-use mathlib.Core.Bool.{Bool, true, false}
 use mathlib.Core.List.{List, [], _∷_}
 use mathlib.Core.Option.{Option, none, some}
 use Rattle.meaning.specs.Base.{if, eqb, count}
 use Rattle.meaning.specs.Ast.{TyVar, fresh, Ty, var}
 use Rattle.meaning.specs.Map.{tyvars, get, insert}
 use Rattle.meaning.specs.Budget.{done, after}
-use Rattle.meaning.specs.Subst.{or-var, look}
+use Rattle.meaning.specs.Subst.{or-var}
 use Rattle.meaning.specs.Infer.{State, fresh-tyvar, fresh-all}
 use Rattle.theorems.proofs.Maps.{get-insert-same, get-insert-other}
 use Rattle.names.specs.Names.{Names, first-fresh, first-nullary, first-node, kindOf, tyvarOf}
 use Rattle.names.proofs.Tests.{eq-yes, eq-no, lt-yes, lt-no}
 use Rattle.names.proofs.Distinct.{tyvarOf-same}
-use Rattle.ast.specs.Table.{cellOf, Table, Node}
+use Rattle.ast.specs.Table.{cellOf, Node}
 use Rattle.ast.specs.declared.Cell.{Cell}
 use Rattle.ast.specs.declared.Cell.the-variants.{Nil, Cons}
 use Rattle.ast.proofs.Laws.{cons-tail}
 use Rattle.vars.specs.Vars.{varsOf}
 use Rattle.vars.proofs.VarLaws.{vars-nil, vars-cons}
-use Rattle.rename.specs.Renaming.{later, posIn, posAt, first-letter, orWord, renamedWord, Renames, freshened}
+use Rattle.rename.specs.Renaming.{later, posIn, posAt, orWord, renamedWord, Renames, freshened}
 use Rattle.rename.proofs.Places.{pos-nil, pos-cons, pos-few}
 
 -- The state with another counter of made variables.

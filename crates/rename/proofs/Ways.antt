@@ -1,21 +1,20 @@
 -- The ways out of `rename` and `rename_list` that call, from what the calls gave.
 use mathlib.Core.Path.{_≡_, refl, ap, sym, _∙_}
 use mathlib.Core.List.{List}
-use Prim.Native.Nat.{ℕ, suc, _+_, _*_, _-_, _^_, _<_, _≤_}
+use Prim.Native.Nat.{ℕ, _+_, _*_, _-_, _^_, _<_, _≤_}
 use native.Mathlib.Omega.{arith}
 use lib.ListN.{length}
-use Rattle.meaning.specs.Ast.{Ty, Tys, con, arrow, _◂_, size, sizes}
+use Rattle.meaning.specs.Ast.{arrow, _◂_, size, sizes}
 use Rattle.meaning.specs.Budget.{Out, Steps, done, after}
 use Rattle.meaning.specs.Subst.{Subst, each, apply-in}
-use Rattle.names.specs.Names.{first-node, nameOf}
-use Rattle.ast.specs.Table.{shapeOf, cellOf, tree, list, Node, pushed}
+use Rattle.names.specs.Names.{first-node}
+use Rattle.ast.specs.Table.{shapeOf, cellOf, tree, list, pushed}
 use Rattle.ast.specs.declared.Shape.{Shape}
 use Rattle.ast.specs.declared.Shape.the-variants.{Con, Arrow}
 use Rattle.ast.specs.declared.Cell.{Cell}
 use Rattle.ast.specs.declared.Cell.the-variants.{Cons}
-use Rattle.ast.proofs.Ranges.{cons-node}
 use Rattle.ast.proofs.Laws.{arrow-right, cons-tail, node-more}
-use Rattle.ast.proofs.NewNode.{Pushed, push-con, push-arrow, push-cons}
+use Rattle.ast.proofs.NewNode.{push-con, push-arrow, push-cons}
 use Rattle.errors.specs.declared.Refusal.{Refusal}
 use Rattle.pairs.specs.Pairs.{Stands}
 use Rattle.pairs.proofs.Frames.{stands-then, stands-up, pushed-stands}

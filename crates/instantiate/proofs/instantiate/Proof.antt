@@ -5,7 +5,6 @@ use Rattle.instantiate.proofs.Making.{few-made, type-ready, type-refuse
 use borrow.Author.Needs.{needs}
 use Rattle.instantiate.proofs.instantiate.Statement.{statement}
 use Rattle.instantiate.proofs.instantiate.Tie as tie
-use Rattle.instantiate.proofs.instantiate.Reads as reads
 
 count-list-requires : tie.Need-count-list-requires
 count-list-requires c κs = search needs

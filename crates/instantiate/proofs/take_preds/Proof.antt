@@ -9,7 +9,6 @@ use Rattle.subst.proofs.PredWays.{class-room}
 use Rattle.instantiate.proofs.Taking.{Taking, taking, take-end, take-ready, take-refused, take-room, take-on}
 use Rattle.instantiate.proofs.take_preds.Statement.{statement}
 use Rattle.instantiate.proofs.take_preds.Tie as tie
-use Rattle.instantiate.proofs.take_preds.Reads as reads
 
 abbrev Inv-loop : tie.InvT-loop
 Inv-loop base work₀ names binders₀ top left tv dv vs ps to l₀ m₀ t₀ n₀ work binders l m t n = Taking names (base ++ work₀) (base ++ work) binders₀ binders top left tv dv vs ps l m t n

@@ -6,7 +6,6 @@ use Rattle.ast.proofs.Laws.{node-room}
 use Rattle.rename.proofs.Places.{Passed, passed, passes-none, passes-few, passes-hit, passes-on}
 use Rattle.rename.proofs.renamed.Statement.{statement}
 use Rattle.rename.proofs.renamed.Tie as tie
-use Rattle.rename.proofs.renamed.Reads as reads
 
 abbrev Inv-loop : tie.InvT-loop
 Inv-loop base work letters top vs to x l₀ i₀ l i = Passed (base ++ work) top vs x l i
