@@ -6,3 +6,5 @@ pub mod Owns
 pub mod Aliases
 pub mod Defers
 pub mod Residuals
+pub mod Fills
+pub mod Means
