@@ -64,6 +64,7 @@ fill-present {p} f d (b ∷ bs) m D e = go (same-dict d (b .0)) (fill-present f 
   where
     here : (x : DictName) (q : Pred) → x ≡ b .0 → q ≡ b .1 → get dicts x bs ≡ none → get dicts x (fillBy f bs (putTerm b (f b) m)) ≡ orElse (f (x, q)) (get dicts x m)
     here x q k v a = fill-absent f x bs (putTerm b (f b) m) a ∙ rw (k, v) (put-own b (f b) m)
+
     go : Dec (d ≡ b .0) → (get dicts d bs ≡ some p → get dicts d (fillBy f bs (putTerm b (f b) m)) ≡ orElse (f (d, p)) (get dicts d (putTerm b (f b) m))) → get dicts d (fillBy f bs (putTerm b (f b) m)) ≡ orElse (f (d, p)) (get dicts d m)
     go (yes k) ih =
         let u : get dicts d (b ∷ bs) ≡ some (b .1) = rw k (get-cons-same dicts (b .0) (b .1) bs) in
@@ -165,6 +166,7 @@ alias-some {k} (c ∷ ks) d p A e = go (same-pred (c .1) p) (alias-some ks d p (
     name : Dec (d ≡ c .0) → p ≡ c .1 → or-core (cdict d) (orElse (aliasTo c (d, p)) none) ≡ cdict (c .0)
     name (yes i) s = rw (yes-is (same-pred p (c .1)) s, yes-is (same-dict d (c .0)) i) (ap cdict i)
     name (no n) s = rw (yes-is (same-pred p (c .1)) s, no-is (same-dict d (c .0)) n) refl
+
     go : Dec (c .1 ≡ p) → (firstOf ks p ≡ some k → or-core (cdict d) (aliasedAs ks d p none) ≡ cdict (k .0)) → or-core (cdict d) (aliasedAs ks d p (orElse (aliasTo c (d, p)) none)) ≡ cdict (k .0)
     go (yes i) ih =
         let u = first-here c ks p i in

@@ -8,3 +8,4 @@ pub mod Defers
 pub mod Residuals
 pub mod Fills
 pub mod Means
+pub mod Replaces

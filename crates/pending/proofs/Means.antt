@@ -32,12 +32,12 @@ use Rattle.pending.proofs.Fills.{Distinct, orElse, equalTo, dischargedA
 -- ## Rows that replace names, beside the binders that they were
 
 -- What a name becomes, by its predicate.
-abbrev valueAt : (DictName → Pred → Core) → DictName → Option Pred → Core
+abbrev pub valueAt : (DictName → Pred → Core) → DictName → Option Pred → Core
 valueAt val d none = cdict d
 valueAt val d (some p) = val d p
 
 -- The row has its number, and its name becomes what val says.
-abbrev Valued : (DictName → Pred → Core) → List ℕ → List ℕ → List ℕ → Row → Row → Type 0
+abbrev pub Valued : (DictName → Pred → Core) → List ℕ → List ℕ → List ℕ → Row → Row → Type 0
 Valued val ns w w₁ (Pending d c t) (Pending d′ c′ t′) = (d′ ≡ d) × (cdict (dvar d) ≡ val (dvar d) (pred (nameOf ns c) (tree ns w t)))
 Valued val ns w w₁ (Pending d c t) (Replaced d′ x) = (d′ ≡ d) × (core ns w₁ x ≡ val (dvar d) (pred (nameOf ns c) (tree ns w t)))
 Valued val ns w w₁ (Replaced d x) r = ⊥
@@ -82,7 +82,7 @@ value-row val ns w w₁ e (Pending d c t) (Replaced d′ x) xs ys v D a ih = rw 
 value-row val ns w w₁ e (Replaced d x) r xs ys v D a ih = absurd v
 
 -- All rows.
-values : (val : DictName → Pred → Core) (ns w w₁ bs bs″ : List ℕ) (e : DictName) (j k : ℕ) → ((i : ℕ) → j ≤ i → i < j + k → Valued val ns w w₁ (rowAt bs i) (rowAt bs″ i)) → Distinct (bindersFrom ns w bs j k)
+pub values : (val : DictName → Pred → Core) (ns w w₁ bs bs″ : List ℕ) (e : DictName) (j k : ℕ) → ((i : ℕ) → j ≤ i → i < j + k → Valued val ns w w₁ (rowAt bs i) (rowAt bs″ i)) → Distinct (bindersFrom ns w bs j k)
     → or-core (cdict e) (get dicts e (replacedFrom ns w₁ bs″ j k)) ≡ valueAt val e (get dicts e (bindersFrom ns w bs j k))
 unfolding bindersFrom replacedFrom get or-core
 values val ns w w₁ bs bs″ e j zero v D = refl
@@ -94,13 +94,14 @@ values val ns w w₁ bs bs″ e j (suc k) v D =
 -- ## What `reduce` discharged
 
 -- A predicate at a type variable was not discharged.
-undischarged : (ns w w′ bs bs′ : List ℕ) (d : DictName) (p : Pred) (n : ℕ) → is-head-normal (p .ty) ≡ true → ((i : ℕ) → i < n → StaysAs ns w (rowAt bs i) (rowAt bs′ i)) → dischargedAs (dischargedIn ns w w′ bs bs′ n) d p none ≡ none
+pub undischarged : (ns w w′ bs bs′ : List ℕ) (d : DictName) (p : Pred) (n : ℕ) → is-head-normal (p .ty) ≡ true → ((i : ℕ) → i < n → StaysAs ns w (rowAt bs i) (rowAt bs′ i)) → dischargedAs (dischargedIn ns w w′ bs bs′ n) d p none ≡ none
 unfolding dischargedIn dischargedAs
 undischarged ns w w′ bs bs′ d p zero h s = refl
 undischarged ns w w′ bs bs′ d p (suc n) h s = go (rowAt bs n) (rowAt bs′ n) (s n (omega arith)) (undischarged ns w w′ bs bs′ d p n h (λ i l. s i (omega arith)))
   where
     other : (c t : ℕ) → is-head-normal (tree ns w t) ≡ false → (p ≡ pred (nameOf ns c) (tree ns w t) → ⊥)
     other c t k e = let u : is-head-normal (p .ty) ≡ false = ap (λ (q : Pred). is-head-normal (q .ty)) e ∙ k in let z : _≡_ {A = ℕ} 0 1 = cc in omega arith
+
     go : (r r′ : Row) → StaysAs ns w r r′ → dischargedAs (dischargedIn ns w w′ bs bs′ n) d p none ≡ none → dischargedAs (addDischarged ns w w′ r r′ (dischargedIn ns w w′ bs bs′ n)) d p none ≡ none
     go (Pending e c t) (Pending e′ c′ t′) k ih = ih
     go (Pending e c t) (Replaced e′ x) k ih =
@@ -118,7 +119,7 @@ module _ (Finds : Pred → Core → Type 0) (steady : (p : Pred) (e e′ : Core)
   FindsRow ns w w′ (Replaced d x) (Replaced d′ e) = Unit {0}
 
   -- A row's dictionary is what was discharged for its predicate.
-  discharged-row : {d₁ c t d₂ x : ℕ} (ns w w′ bs bs′ : List ℕ) (d : DictName) (i n : ℕ) → i < n → rowAt bs i ≡ Pending d₁ c t → rowAt bs′ i ≡ Replaced d₂ x → ((j : ℕ) → j < n → FindsRow ns w w′ (rowAt bs j) (rowAt bs′ j))
+  pub discharged-row : {d₁ c t d₂ x : ℕ} (ns w w′ bs bs′ : List ℕ) (d : DictName) (i n : ℕ) → i < n → rowAt bs i ≡ Pending d₁ c t → rowAt bs′ i ≡ Replaced d₂ x → ((j : ℕ) → j < n → FindsRow ns w w′ (rowAt bs j) (rowAt bs′ j))
       → dischargedAs (dischargedIn ns w w′ bs bs′ n) d (pred (nameOf ns c) (tree ns w t)) none ≡ some (core ns w′ x)
   unfolding dischargedIn
   discharged-row ns w w′ bs bs′ d i zero h a b f = absurd (omega arith)
@@ -127,6 +128,7 @@ module _ (Finds : Pred → Core → Type 0) (steady : (p : Pred) (e e′ : Core)
     where
       found : Finds (pred (nameOf ns c) (tree ns w t)) (core ns w′ x)
       found = rw (a, b) at (f i h)
+
       go : (r r′ : Row) → FindsRow ns w w′ r r′ → Dec (i ≡ n) → rowAt bs n ≡ r → rowAt bs′ n ≡ r′
           → (i < n → dischargedAs (dischargedIn ns w w′ bs bs′ n) d (pred (nameOf ns c) (tree ns w t)) none ≡ some (core ns w′ x))
           → dischargedAs (addDischarged ns w w′ r r′ (dischargedIn ns w w′ bs bs′ n)) d (pred (nameOf ns c) (tree ns w t)) none ≡ some (core ns w′ x)
