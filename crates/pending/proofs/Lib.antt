@@ -9,3 +9,4 @@ pub mod Residuals
 pub mod Fills
 pub mod Means
 pub mod Replaces
+pub mod Callers
