@@ -1,23 +1,27 @@
 -- What a caller of `reduce`, `alias_rows` and `defer_rows` knows of the rows after each: they stand for binders, those that are
 -- pending are in their bounds, and what replaces the others are words of the table.
-use mathlib.Core.Path.{_≡_, refl, sym, subst, _∙_}
+use mathlib.Core.Path.{_≡_, refl, ap, sym, subst, _∙_}
 use mathlib.Core.List.{List}
-use Prim.Native.Nat.{ℕ, _+_, _*_, _<_, _≤_}
+use mathlib.Core.Option.{none}
+use Prim.Native.Nat.{ℕ, zero, suc, _+_, _*_, _-_, _<_, _≤_}
 use native.Mathlib.Omega.{arith}
 use lib.ListN.{length}
 use Rattle.meaning.specs.Base.{if}
-use Rattle.meaning.specs.Ast.{TyVar, Binder}
-use Rattle.names.specs.Names.{first-fresh, first-node}
+use Rattle.meaning.specs.Ast.{TyVar, dvar, pred, Binder}
+use Rattle.meaning.specs.Map.{dicts, get}
+use Rattle.theorems.proofs.Maps.{get-cons-other}
+use Rattle.names.specs.Names.{first-fresh, first-node, nameOf}
 use Rattle.ast.specs.Table.{tree, Table, Node}
 use Rattle.ast.proofs.Laws.{node-more}
-use Rattle.supers.specs.Rows.{rowAt, bindersIn, HasWord, TypeIn, Binders}
+use Rattle.supers.specs.Rows.{rowAt, withRow, bindersFrom, bindersIn, HasWord, TypeIn, Binders}
 use Rattle.supers.specs.declared.rows.Row.{Row}
 use Rattle.supers.specs.declared.rows.Row.the-variants.{Pending, Replaced}
 use Rattle.reduce.specs.Reduces.{Became}
 use Rattle.terms.specs.Rows.{TermIn}
-use Rattle.pending.specs.Rows.{PendingRow, PendingRows}
+use Rattle.pending.specs.Rows.{PendingRow, PendingRows, numberOf, NumbersApart}
 use Rattle.pending.specs.Owned.{owns, IsPending, Among, Aliased, GivesAliased, GivesDeferred}
 use Rattle.pending.proofs.Aliases.{pick-small}
+use Rattle.pending.proofs.Fills.{Distinct}
 
 -- A row in its bounds: a pending one is as inference made it, and what replaces another is a word of the table.
 abbrev pub Sound : List ℕ → ℕ → Row → Type 0
@@ -113,3 +117,49 @@ module _ {fs es : List TyVar} {ns w bs bs′ : List ℕ} {top n nd : ℕ} (S : S
     fits = (let f = S .fits in let m = D .most in omega arith);
     each = λ i h. let m = D .most in sound-pending w top (rowAt bs′ i) (deferred-sound .each i (omega arith)) (D .front i h);
   }
+
+-- ## Numbers
+
+-- Rows that keep their numbers.
+pub numbers-kept : {bs bs′ : List ℕ} {n : ℕ} → ((i : ℕ) → i < n → numberOf (rowAt bs′ i) ≡ numberOf (rowAt bs i)) → NumbersApart bs n → NumbersApart bs′ n
+numbers-kept k N = record { apart = λ i j p q e. N .apart i j p q (sym (k i p) ∙ e ∙ k j q) }
+
+-- So does `reduce`,
+pub became-number : (w′ : List ℕ) (top′ : ℕ) (r r′ : Row) → Became w′ top′ r r′ → numberOf r′ ≡ numberOf r
+became-number w′ top′ (Pending d c t) (Pending d′ c′ t′) b = ap numberOf b
+became-number w′ top′ (Pending d c t) (Replaced d′ e) b = b .0
+became-number w′ top′ (Replaced d x) (Pending d′ c′ t′) b = absurd b
+became-number w′ top′ (Replaced d x) (Replaced d′ e) b = ap numberOf b
+
+-- and so does `alias_rows`.
+pub aliased-number : (fs es : List TyVar) (ns w : List ℕ) (os : List Binder) (r r′ : Row) → Aliased fs es ns w os r r′ → numberOf r′ ≡ numberOf r
+aliased-number fs es ns w os (Pending d c t) (Pending d′ c′ t′) A = ap numberOf (A .0)
+aliased-number fs es ns w os (Pending d c t) (Replaced d′ x) A = A .0
+aliased-number fs es ns w os (Replaced d x) (Pending d′ c′ t′) A = absurd A
+aliased-number fs es ns w os (Replaced d x) (Replaced d′ x′) A = ap numberOf A
+
+-- Rows with other numbers have not the name.
+absent-name : (ns w bs : List ℕ) (d j k : ℕ) → ((i : ℕ) → j ≤ i → i < j + k → numberOf (rowAt bs i) ≡ d → ⊥) → get dicts (dvar d) (bindersFrom ns w bs j k) ≡ none
+unfolding bindersFrom get
+absent-name ns w bs d j zero h = refl
+absent-name ns w bs d j (suc k) h = go (rowAt bs j) refl (absent-name ns w bs d (suc j) k (λ i p q. h i (omega arith) (omega arith)))
+  where
+    go : (r : Row) → rowAt bs j ≡ r → get dicts (dvar d) (bindersFrom ns w bs (suc j) k) ≡ none → get dicts (dvar d) (withRow ns w r (bindersFrom ns w bs (suc j) k)) ≡ none
+    go (Pending e c t) m ih = get-cons-other dicts (dvar d) (dvar e) (pred (nameOf ns c) (tree ns w t)) (bindersFrom ns w bs (suc j) k) (λ q. h j (omega arith) (omega arith) (ap numberOf m ∙ sym (inner q))) ∙ ih
+      where
+        inner : dvar d ≡ dvar e → d ≡ e
+        inner q = cc
+    go (Replaced e x) m ih = ih
+
+-- Binders of rows with numbers apart have distinct names.
+distinct-from : (ns w bs : List ℕ) (j k : ℕ) → ((i l : ℕ) → j ≤ i → i < l → l < j + k → numberOf (rowAt bs i) ≡ numberOf (rowAt bs l) → ⊥) → Distinct (bindersFrom ns w bs j k)
+unfolding bindersFrom
+distinct-from ns w bs j zero h = tt
+distinct-from ns w bs j (suc k) h = go (rowAt bs j) refl (distinct-from ns w bs (suc j) k (λ i l p q s. h i l (omega arith) q (omega arith)))
+  where
+    go : (r : Row) → rowAt bs j ≡ r → Distinct (bindersFrom ns w bs (suc j) k) → Distinct (withRow ns w r (bindersFrom ns w bs (suc j) k))
+    go (Pending d c t) m ih = (absent-name ns w bs d (suc j) k (λ i p q e. h j i (omega arith) (omega arith) (omega arith) (ap numberOf m ∙ sym e)), ih)
+    go (Replaced d x) m ih = ih
+
+pub numbers-distinct : {bs : List ℕ} {n : ℕ} (ns w : List ℕ) → NumbersApart bs n → Distinct (bindersIn ns w bs 0 n)
+numbers-distinct {bs} {n} ns w N = distinct-from ns w bs 0 (n - 0) (λ i l p q r e. let z = N .apart i l (omega arith) (omega arith) e in omega arith)

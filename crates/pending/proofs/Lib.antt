@@ -4,6 +4,7 @@ pub mod Loops
 pub mod Firsts
 pub mod Owns
 pub mod Aliases
+pub mod Numbers
 pub mod Defers
 pub mod Residuals
 pub mod Fills
