@@ -18,9 +18,10 @@ use Rattle.supers.specs.declared.rows.Row.the-variants.{Pending, Replaced}
 use Rattle.supers.proofs.RowLaws.{rows-end}
 use Rattle.reduce.proofs.Marks.{row-same}
 use Rattle.terms.specs.Rows.{withReplaced, replacedFrom}
-use Rattle.pending.specs.Rows.{Rotated}
+use Rattle.pending.specs.Rows.{NumbersApart, Rotated}
 use Rattle.pending.specs.Owned.{owns, ownBinder, lateBinder, lateRow, ReadyOwn, IsPending, Among, LateAs, GivesLate, GivesDeferred}
 use Rattle.pending.proofs.Loops.{same-rows, binders-snoc}
+use Rattle.pending.proofs.Numbers.{rotated-numbers}
 
 -- ## The ways out of `is_late`: q is what `row_at` returned
 
@@ -127,6 +128,7 @@ pub record Deferring (fs es : List TyVar) (ns w bs₀ bs : List ℕ) (n nd i : �
   pub front : (j : ℕ) → j < nd → IsPending (rowAt bs j)
   pub comes : (j : ℕ) → j < n → Among bs₀ n (rowAt bs j)
   pub goes : (j : ℕ) → j < n → Among bs n (rowAt bs₀ j)
+  pub numbers : NumbersApart bs₀ n → NumbersApart bs n
   pub behind : (j : ℕ) → 3 * i ≤ j → getD bs j 0 ≡ getD bs₀ j 0
 
 -- At first there are none.
@@ -142,6 +144,7 @@ deferring {ns} {w} {ev} {od} {bs} fs es R = record {
   front = λ j h. absurd (omega arith);
   comes = λ j h. record { number = j; below = h; is = refl };
   goes = λ j h. record { number = j; below = h; is = refl };
+  numbers = λ x. x;
   behind = λ j h. refl;
 }
 
@@ -159,6 +162,7 @@ module _ {fs es : List TyVar} {ns w bs₀ bs : List ℕ} {n nd i : ℕ} (D : Def
         front = D .front;
         comes = D .comes;
         goes = D .goes;
+        numbers = D .numbers;
         behind = λ j p. D .behind j (omega arith);
       }
 
@@ -198,6 +202,7 @@ module _ {fs es : List TyVar} {ns w bs₀ bs : List ℕ} {n nd i : ℕ} (D : Def
           front = D .front;
           comes = D .comes;
           goes = D .goes;
+          numbers = D .numbers;
           behind = λ j p. D .behind j (omega arith);
         }
 
@@ -248,6 +253,7 @@ module _ {fs es : List TyVar} {ns w bs₀ bs : List ℕ} {n nd i : ℕ} (D : Def
             front = λ j p. front j p (decLt j nd) (o .1 .1);
             comes = λ j p. from j p (decLt j nd) (ℕ-discrete j nd) (decLt i j);
             goes = λ j p. let a = D .goes j p in let b = onto (a .number) (a .below) (decLt (a .number) nd) (ℕ-discrete (a .number) i) (decLt i (a .number)) in record { number = b .number; below = b .below; is = b .is ∙ a .is };
+            numbers = λ x. rotated-numbers R m h (D .numbers x);
             behind = λ j p. R .behind j (omega arith) ∙ D .behind j (omega arith);
           }
         where

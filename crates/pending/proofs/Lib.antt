@@ -4,5 +4,10 @@ pub mod Loops
 pub mod Firsts
 pub mod Owns
 pub mod Aliases
+pub mod Numbers
 pub mod Defers
 pub mod Residuals
+pub mod Fills
+pub mod Means
+pub mod Replaces
+pub mod Callers

@@ -18,7 +18,7 @@ use Rattle.supers.specs.declared.rows.Row.the-variants.{Pending, Replaced}
 use Rattle.terms.specs.Rows.{replacedFrom}
 use Rattle.pending.specs.declared.own.Twin.{Twin}
 use Rattle.pending.specs.declared.own.Twin.the-variants.{At, Nothing}
-use Rattle.pending.specs.Rows.{Rotated}
+use Rattle.pending.specs.Rows.{NumbersApart, Rotated}
 
 -- ## Binders with equal predicates
 
@@ -145,4 +145,5 @@ pub record GivesDeferred (fs es : List TyVar) (ns w bs bs′ : List ℕ) (n nd :
   pub front : (i : ℕ) → i < nd → IsPending (rowAt bs′ i)
   pub comes : (i : ℕ) → i < n → Among bs n (rowAt bs′ i)
   pub goes : (i : ℕ) → i < n → Among bs′ n (rowAt bs i)
+  pub numbers : NumbersApart bs n → NumbersApart bs′ n
   pub behind : (i : ℕ) → 3 * n ≤ i → getD bs′ i 0 ≡ getD bs i 0

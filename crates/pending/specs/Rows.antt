@@ -22,6 +22,15 @@ pub record PendingRows (w bs : List ℕ) (top n : ℕ) : Type 0 where
   pub fits : 3 * n ≤ length bs
   pub each : (i : ℕ) → i < n → PendingRow w top (rowAt bs i)
 
+-- The dictionary's number of a row.
+abbrev pub numberOf : Row → ℕ
+numberOf (Pending d c t) = d
+numberOf (Replaced d x) = d
+
+-- No two of the first n rows have the same number.
+pub record NumbersApart (bs : List ℕ) (n : ℕ) : Type 0 where
+  pub apart : (i j : ℕ) → i < n → j < n → numberOf (rowAt bs i) ≡ numberOf (rowAt bs j) → i ≡ j
+
 -- Rows k and k + 1 changed places; all other words stand.
 pub record Swapped (bs bs′ : List ℕ) (k : ℕ) : Type 0 where
   pub first : rowAt bs′ k ≡ rowAt bs (suc k)
