@@ -56,7 +56,7 @@ elem-more : (x v : TyVar) (vs : List TyVar) → elem tyvars x vs ≡ true → el
 elem-more x v vs e = elem-cons x v vs ∙ or-right (yes? (same-tyvar x v)) (elem tyvars x vs) e
 
 -- No word has a place in the empty list.
-no-place : (w : List ℕ) (x : ℕ) → posIn w nil-word x ≡ none
+pub no-place : (w : List ℕ) (x : ℕ) → posIn w nil-word x ≡ none
 unfolding posIn posF
 no-place w x = rw (cell-low w nil-word (omega arith)) refl
 

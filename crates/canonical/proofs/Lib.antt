@@ -4,3 +4,6 @@ pub mod Lettering
 pub mod Bytes
 pub mod Lasts
 pub mod Sorting
+pub mod Turns
+pub mod Goes
+pub mod Listing

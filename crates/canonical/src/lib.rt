@@ -18,6 +18,8 @@ ghost use Rattle.canonical.specs.Named.{freeIn, rowHas, ReadyVar, ReadyT
 
 pub mod sorted;
 
+pub mod renamed;
+
 // A variable's word that a walk picked, or none.
 pub enum Pick {
     Nothing,
