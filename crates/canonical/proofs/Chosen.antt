@@ -103,12 +103,12 @@ made-below ns (fresh m) x i h e =
 
 -- ## the renaming
 -- A new name, or the old one where there is none.
-abbrev or-name : TyVar → Option TyVar → TyVar
+abbrev pub or-name : TyVar → Option TyVar → TyVar
 or-name x none = x
 or-name x (some y) = y
 
 -- A renaming as a substitution says of a variable its new name.
-look-as : (x : TyVar) (r : Map TyVar TyVar) → look (as-subst r) x ≡ var (or-name x (get tyvars x r))
+pub look-as : (x : TyVar) (r : Map TyVar TyVar) → look (as-subst r) x ≡ var (or-name x (get tyvars x r))
 unfolding get or-var
 look-as x [] = refl
 look-as x (p ∷ r) = go (same-tyvar x (p .0)) (look-as x r)
@@ -129,7 +129,7 @@ late x k (v ∷ vs) h = rw (lt-no k 26 h) (go (same-tyvar x v) (late x (suc k) v
     go (no n) ih = ap (or-name x) (get-insert-other tyvars x (v, v) (renamer-from (suc k) vs) n) ∙ ih
 
 -- A variable that is not in the list gets no name.
-absent : (x : TyVar) (k : ℕ) (vs : List TyVar) → elem tyvars x vs ≡ false → get tyvars x (renamer-from k vs) ≡ none
+pub absent : (x : TyVar) (k : ℕ) (vs : List TyVar) → elem tyvars x vs ≡ false → get tyvars x (renamer-from k vs) ≡ none
 unfolding renamer-from get elem
 absent x k [] e = refl
 absent x k (v ∷ vs) e = go (same-tyvar x v) refl (absent x (suc k) vs)
@@ -145,7 +145,7 @@ unfolding renamer-from
 first-name v k vs h = rw (lt-yes k 26 h) (ap (or-name v) (get-insert-same tyvars v (letter k) (renamer-from (suc k) vs)))
 
 -- Another one its name among the rest.
-later-name : (x v : TyVar) (k : ℕ) (vs : List TyVar) → x ≢ v → get tyvars x (renamer-from k (v ∷ vs)) ≡ get tyvars x (renamer-from (suc k) vs)
+pub later-name : (x v : TyVar) (k : ℕ) (vs : List TyVar) → x ≢ v → get tyvars x (renamer-from k (v ∷ vs)) ≡ get tyvars x (renamer-from (suc k) vs)
 unfolding renamer-from
 later-name x v k vs h = get-insert-other tyvars x (v, if (ltb k 26) (letter k) v) (renamer-from (suc k) vs) h
 

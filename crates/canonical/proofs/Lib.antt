@@ -7,3 +7,6 @@ pub mod Sorting
 pub mod Turns
 pub mod Goes
 pub mod Listing
+pub mod NewNames
+pub mod Images
+pub mod Fewer

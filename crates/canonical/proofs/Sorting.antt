@@ -115,7 +115,7 @@ ahead-few {ns} {vs} {behind} A =
 
 -- ## the loop
 -- A bound variable occurs, and the environment has it not.
-bound-parts : (v : TyVar) (q : Qual) (env : Env) → elem tyvars v (bound q env) ≡ true → (occurs-qual v q ≡ true) × (elem tyvars v (env-ftv env) ≡ false)
+pub bound-parts : (v : TyVar) (q : Qual) (env : Env) → elem tyvars v (bound q env) ≡ true → (occurs-qual v q ≡ true) × (elem tyvars v (env-ftv env) ≡ false)
 bound-parts v q env e =
     let f : (elem tyvars v (ftv-qual q) && not (elem tyvars v (env-ftv env))) ≡ true = sym (elem-without v (ftv-qual q) (env-ftv env)) ∙ e in
     (sym (elem-ftv-qual v q) ∙ and-left (elem tyvars v (ftv-qual q)) _ f, unnot (elem tyvars v (env-ftv env)) (and-right (elem tyvars v (ftv-qual q)) _ f))
