@@ -1,14 +1,14 @@
 -- The words that are chosen one after the other, and that giving them the letters is the canonical renaming.
 use mathlib.Core.Path.{_≡_, refl, ap, sym, _∙_, subst}
-use mathlib.Core.Bool.{Bool, true, false, not, _&&_, true≢false, false≢true}
-use mathlib.Core.List.{List, [], _∷_, _++_, append-nil}
+use mathlib.Core.Bool.{Bool, true, false, true≢false, false≢true}
+use mathlib.Core.List.{List, [], _∷_}
 use mathlib.Core.Option.{Option, none, some}
 use mathlib.Core.Logic.{_≢_}
-use Prim.Native.Nat.{ℕ, zero, suc, _+_, _-_, _<_, _≤_}
+use Prim.Native.Nat.{ℕ, suc, _+_, _-_, _<_, _≤_}
 use native.Mathlib.Omega.{arith}
 use native.Mathlib.Decide.{ℕ-discrete, decLt}
-use Rattle.meaning.specs.Base.{yes?, if, eqb, ltb}
-use Rattle.meaning.specs.Ast.{TyVar, named, fresh, same-tyvar, letter, var, Qual}
+use Rattle.meaning.specs.Base.{yes?, if, ltb}
+use Rattle.meaning.specs.Ast.{TyVar, named, fresh, same-tyvar, letter, var}
 use Rattle.meaning.specs.Map.{Map, tyvars, get, insert, elem}
 use Rattle.meaning.specs.Subst.{or-var, look}
 use Rattle.meaning.specs.Cores.{internal-before, sort-by, renamer-from, canonical-renamer, as-subst}
@@ -17,7 +17,7 @@ use Rattle.theorems.proofs.Maps.{get-insert-same, get-insert-other}
 use Rattle.theorems.proofs.FreeVars.{elem-head, elem-cons, elem-sort-by}
 use Rattle.theorems.proofs.Made.{IsMade}
 use Rattle.theorems.proofs.MadeGeneralized.{MadeVars}
-use Rattle.theorems.proofs.MadeOrder.{Rising, Once, sort-rising, made-irrefl}
+use Rattle.theorems.proofs.MadeOrder.{Rising, Once, sort-rising}
 use Rattle.names.specs.Names.{Names, first-fresh, first-nullary, first-node, variableOf, tyvarOf}
 use Rattle.names.specs.declared.Kind.{Kind}
 use Rattle.names.proofs.Tests.{lt-yes, lt-no, eq-yes, eq-no}

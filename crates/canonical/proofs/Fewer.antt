@@ -1,7 +1,8 @@
 -- A qualified type has no more variables than places where a variable stands.
+use mathlib.Core.Path.{_≡_, refl, ap}
 use mathlib.Core.Bool.{Bool, true, false, not}
 use mathlib.Core.List.{List, [], _∷_}
-use Prim.Native.Nat.{ℕ, suc, _+_, _≤_}
+use Prim.Native.Nat.{suc, _+_, _≤_}
 use native.Mathlib.Omega.{arith}
 use Rattle.meaning.specs.Base.{if, keep, count, total}
 use Rattle.meaning.specs.Ast.{TyVar, Ty, Tys, var, con, arrow, nil, _◂_, Pred, Qual}
@@ -55,3 +56,13 @@ keep-few f (v ∷ vs) = go (f v) (keep-few f vs)
 pub bound-few : (q : Qual) (env : Env) → count (bound q env) ≤ leaves-preds (q .preds) + leaves (q .ty)
 unfolding without
 bound-few q env = let h = keep-few (λ v. not (elem tyvars v (env-ftv env))) (ftv-qual q) in let k = qual-few q in omega arith
+
+keep-all : (vs : List TyVar) → keep (λ v. not (elem tyvars v [])) vs ≡ vs
+unfolding keep elem
+keep-all [] = refl
+keep-all (v ∷ vs) = ap (λ (us : List TyVar). v ∷ us) (keep-all vs)
+
+-- Where there is no environment all are bound.
+pub bound-all : (q : Qual) → bound q [] ≡ ftv-qual q
+unfolding without env-ftv
+bound-all q = keep-all (ftv-qual q)

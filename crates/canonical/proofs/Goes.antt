@@ -2,38 +2,29 @@
 use mathlib.Core.Path.{_≡_, refl, ap, sym, _∙_, subst}
 use mathlib.Core.List.{List, [], _∷_, _++_, append-nil}
 use mathlib.Core.Logic.{_⊎_, inl, inr, ⊎-elim}
-use Prim.Native.Nat.{ℕ, zero, suc, _+_, _*_, _-_, _<_, _≤_}
+use Prim.Native.Nat.{ℕ, suc, _+_, _*_, _-_, _<_, _≤_}
 use native.Mathlib.Omega.{arith}
 use native.Mathlib.Decide.{ℕ-discrete}
 use native.Mathlib.Numerals.{add-one}
-use lib.ListN.{length, getD, set, length-set}
-use lib.Seq.{getD-set-same, getD-set-other}
-use Rattle.meaning.specs.Base.{if, eqb, yes?, count, total}
-use Rattle.meaning.specs.Ast.{Name, DictName, Ty, pred, dvar, Binder}
-use Rattle.meaning.specs.Errors as E
-use Rattle.meaning.specs.Budget.{Out, done, refused, after, depth}
-use Rattle.meaning.specs.Subst.{Subst, apply-in, apply-pred, apply-preds-pending}
+use lib.ListN.{length}
+use Rattle.meaning.specs.Base.{count, total}
+use Rattle.meaning.specs.Ast.{Binder}
+use Rattle.meaning.specs.Budget.{Out, done, after}
+use Rattle.meaning.specs.Subst.{Subst, apply-preds-pending}
 use Rattle.meaning.specs.Generalize.{preds-of}
-use Rattle.names.specs.Names.{Names, first-node, first-nullary, nameOf}
-use Rattle.ast.specs.Table.{nil-word, tree, Table, Node, Kept}
-use Rattle.ast.proofs.Laws.{kept-tree, kept-node, low-node, node-more, kept-refl, kept-then}
-use Rattle.errors.specs.Refusals.{Refuses}
+use Rattle.ast.specs.Table.{Table}
+use Rattle.ast.proofs.Laws.{node-more}
 use Rattle.errors.specs.declared.Refusal.{Refusal}
 use Rattle.pairs.specs.Pairs.{Stands}
 use Rattle.pairs.proofs.Frames.{stands-refl, stands-then, stands-up}
-use Rattle.apply.specs.declared.Applied.{Applied}
-use Rattle.apply.specs.declared.Applied.the-variants.{Done as Made, Refused as Not-made}
 use Rattle.supers.specs.declared.rows.Row.{Row}
 use Rattle.supers.specs.declared.rows.Row.the-variants.{Pending, Replaced}
-use Rattle.supers.specs.Rows.{mark, rowOf, rowAt, withRow, bindersFrom, bindersIn, HasWord, RowsFit, TypeIn, Binders}
-use Rattle.supers.proofs.RowLaws.{row-step, rows-end, row-open, kept-rows}
-use Rattle.simplify.proofs.RowSets.{row-words, set-others, same-rows, binders-split, binders-snoc}
-use Rattle.rename.specs.Renaming.{Renames, renamedWord, leaves}
-use Rattle.rename.specs.Renamed as R
-use Rattle.canonical.specs.Rows.{leaves-preds, ReadyRename, Letters, RowDone, RenamesRow, RowsDone, GivesRows}
+use Rattle.supers.specs.Rows.{rowAt, withRow, bindersFrom, bindersIn, HasWord, TypeIn, Binders}
+use Rattle.supers.proofs.RowLaws.{row-step, rows-end, kept-rows}
+use Rattle.simplify.proofs.RowSets.{same-rows, binders-split, binders-snoc}
+use Rattle.canonical.specs.Rows.{leaves-preds, ReadyRename, Letters, RowDone, RenamesRow, GivesRows}
 use Rattle.canonical.specs.declared.renamed.Rows.{Rows}
 use Rattle.canonical.specs.declared.renamed.Rows.the-variants.{Done, Refused}
-use Rattle.canonical.proofs.Chosen.{no-place}
 use Rattle.canonical.proofs.Turns.{after-same, after-both, after-ext, letters-same}
 
 -- The words were w₀ and the rows bs₀: up to row i they are renamed.
@@ -170,12 +161,12 @@ module _ {ns w₀ w w′ ls bs₀ bs bs′ : List ℕ} {top left n i m k : ℕ} 
         ≡ after (apply-preds-pending s (bindersIn ns w′ bs′ (suc i) n) k₂) (λ qs l. done (bindersIn ns w′ bs′ 0 (suc i) ++ qs) l)
     whole-is s S =
         let a : apply-preds-pending s (bindersIn ns w bs i n) k ≡ after (apply-preds-pending s (bindersIn ns w bs (suc i) n) k₂) (λ qs l. done (withRow ns w′ (rowAt bs′ i) qs) l) =
-            rw (row-step ns w bs i n h) (turned .is s (letters-same w₀ w S) (bindersIn ns w bs (suc i) n)) in
+        rw (row-step ns w bs i n h) (turned .is s (letters-same w₀ w S) (bindersIn ns w bs (suc i) n)) in
         G .is s S
         ∙ ap (λ (o : Out (List Binder)). after o (λ qs l. done (bindersIn ns w bs 0 i ++ qs) l)) a
         ∙ after-both (apply-preds-pending s (bindersIn ns w bs (suc i) n) k₂) (λ qs l. done (withRow ns w′ (rowAt bs′ i) qs) l) (λ qs l. done (bindersIn ns w bs 0 i ++ qs) l)
         ∙ after-ext (apply-preds-pending s (bindersIn ns w bs (suc i) n) k₂) (λ qs l. after (done (withRow ns w′ (rowAt bs′ i) qs) l) (λ os l₁. done (bindersIn ns w bs 0 i ++ os) l₁))
-            (λ qs l. done (bindersIn ns w′ bs′ 0 (suc i) ++ qs) l) one-more
+        (λ qs l. done (bindersIn ns w′ bs′ 0 (suc i) ++ qs) l) one-more
         ∙ ap (λ (os : List Binder). after (apply-preds-pending s os k₂) (λ qs l. done (bindersIn ns w′ bs′ 0 (suc i) ++ qs) l)) (sym rest-same)
 
     -- The loop goes on.

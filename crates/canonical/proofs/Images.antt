@@ -1,15 +1,15 @@
 -- The variables of a renamed type that the environment has not are the new names.
 use mathlib.Core.Path.{_≡_, refl, ap, sym, _∙_, subst}
-use mathlib.Core.Bool.{Bool, true, false, _||_, true≢false, false≢true}
+use mathlib.Core.Bool.{Bool, true, false, _||_, false≢true}
 use mathlib.Core.List.{List, [], _∷_}
 use mathlib.Core.Option.{Option, none, some}
 use Prim.Native.Nat.{ℕ}
-use Rattle.meaning.specs.Base.{yes?, if}
+use Rattle.meaning.specs.Base.{yes?}
 use Rattle.meaning.specs.Ast.{Name, same-name, TyVar, same-tyvar, tyvar-before, letter, Ty, Tys, var, con, arrow, nil, _◂_, Pred, Qual, qual}
 use Rattle.meaning.specs.Map.{Map, names, tyvars, get, elem}
 use Rattle.meaning.specs.Subst.{look, ftv-qual, ftv-scheme, occurs, occurs-in}
 use Rattle.meaning.specs.Plain.{Fill, sub, subs, sub-preds}
-use Rattle.meaning.specs.Cores.{internal-before, sort-by, renamer-from, canonical-renamer, as-subst, images}
+use Rattle.meaning.specs.Cores.{internal-before, sort-by, canonical-renamer, as-subst, images}
 use Rattle.meaning.specs.Generalize.{Env, env-ftv}
 use Rattle.theorems.proofs.Tests.{yes?-true, yes?-of, or-cases, or-left, or-right, none-some, some-inj}
 use Rattle.theorems.proofs.Maps.{get-cons-same, get-cons-other}
@@ -158,7 +158,7 @@ module _ (q : Qual) (env : Env) (made : MadeQual q) (free : MadeVars (env-ftv en
       go x n o none i j =
           let k : y ≡ x = j ∙ ap (or-name x) i in
           absurd (renames-all x 0 (sort-by internal-before (bound q env))
-              (elem-sort-by internal-before x (bound q env) ∙ bound-yes x q env o (subst (λ (v : TyVar). elem tyvars v (env-ftv env) ≡ false) k n)) i)
+          (elem-sort-by internal-before x (bound q env) ∙ bound-yes x q env o (subst (λ (v : TyVar). elem tyvars v (env-ftv env) ≡ false) k n)) i)
 
   -- A new name is a variable of the renamed type that the environment has not.
   image-is : (y : TyVar) → elem tyvars y (images (canonical-renamer (bound q env))) ≡ true → elem tyvars y (bound (filled (look (as-subst (canonical-renamer (bound q env)))) q) env) ≡ true
@@ -191,6 +191,6 @@ module _ (q : Qual) (env : Env) (made : MadeQual q) (free : MadeVars (env-ftv en
       let q₁ = filled (look (as-subst (canonical-renamer (bound q env)))) q in
       bytes-same _ _ (sort-bytes (bound q₁ env) (once-without (ftv-qual q₁) (env-ftv env) (once-ftv-qual q₁)))
       (sort-bytes (images (canonical-renamer (bound q env))) (images-once (canonical-renamer (bound q env)) (renamer-sorted 0 (sort-by internal-before (bound q env)))
-          (λ x x′ y e f. renamer-once 0 (sort-by internal-before (bound q env)) x x′ y order-made order-once e f)))
+      (λ x x′ y e f. renamer-once 0 (sort-by internal-before (bound q env)) x x′ y order-made order-once e f)))
       (λ y. elem-sort-by tyvar-before y (bound q₁ env) ∙ both-ways (elem tyvars y (bound q₁ env)) (elem tyvars y (images (canonical-renamer (bound q env)))) (is-image y) (image-is y)
-          ∙ sym (elem-sort-by tyvar-before y (images (canonical-renamer (bound q env)))))
+      ∙ sym (elem-sort-by tyvar-before y (images (canonical-renamer (bound q env)))))

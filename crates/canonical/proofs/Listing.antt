@@ -1,19 +1,17 @@
 -- The loop of `list_preds`, from the last row on, and what both loops give together.
 use mathlib.Core.Path.{_≡_, refl, ap, sym, _∙_, subst}
-use mathlib.Core.List.{List, [], _∷_, _++_}
-use Prim.Native.Nat.{ℕ, zero, suc, _+_, _*_, _-_, _<_, _≤_}
+use mathlib.Core.List.{List, [], _∷_}
+use Prim.Native.Nat.{ℕ, suc, _+_, _*_, _-_, _<_, _≤_}
 use native.Mathlib.Omega.{arith}
 use lib.ListN.{length}
-use Rattle.meaning.specs.Base.{count, total}
+use Rattle.meaning.specs.Base.{count}
 use Rattle.meaning.specs.Ast.{dvar, Pred, pred, Binder}
 use Rattle.meaning.specs.Budget.{Out, done, refused, after}
 use Rattle.meaning.specs.Subst.{Subst, apply-pred, apply-preds, apply-preds-pending}
 use Rattle.meaning.specs.Generalize.{preds-of}
 use Rattle.names.specs.Names.{first-node, nameOf}
-use Rattle.ast.specs.Table.{nil-word, tree, Table, Node, Kept}
+use Rattle.ast.specs.Table.{nil-word, tree, Table, Node}
 use Rattle.ast.proofs.Laws.{kept-tree, low-node, node-more}
-use Rattle.ast.proofs.NewNode.{Pushed}
-use Rattle.errors.specs.Refusals.{Refuses}
 use Rattle.errors.specs.declared.Refusal.{Refusal}
 use Rattle.pairs.specs.Pairs.{Stands}
 use Rattle.pairs.proofs.Frames.{stands-refl, stands-then, stands-up}
@@ -25,7 +23,7 @@ use Rattle.supers.specs.declared.rows.Row.the-variants.{Pending, Replaced}
 use Rattle.supers.specs.Rows.{rowAt, bindersIn, TypeIn, Binders}
 use Rattle.supers.proofs.RowLaws.{row-pending, row-passed, rows-end, kept-rows}
 use Rattle.simplify.proofs.RowSets.{binders-split}
-use Rattle.canonical.specs.Rows.{leaves-preds, ReadyRename, Letters, RowsDone, GivesRows, ReadyList, Preds, GivesRenamed}
+use Rattle.canonical.specs.Rows.{ReadyRename, RowsDone, GivesRows, ReadyList, Preds, GivesRenamed}
 use Rattle.canonical.specs.declared.renamed.Rows.{Rows}
 use Rattle.canonical.specs.declared.renamed.Rows.the-variants.{Done, Refused}
 use Rattle.canonical.proofs.Goes.{type-later, count-both}

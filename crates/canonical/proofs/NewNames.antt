@@ -1,37 +1,29 @@
 -- The variables of a renamed type that the environment has not are the new names.
 use mathlib.Core.Path.{_≡_, refl, ap, sym, _∙_, subst}
-use mathlib.Core.Bool.{Bool, true, false, not, _||_, _&&_, true≢false, false≢true}
-use mathlib.Core.List.{List, [], _∷_, _++_}
-use mathlib.Core.Option.{Option, none, some}
-use mathlib.Core.Logic.{_≢_, _⊎_, inl, inr, ⊎-elim}
-use Prim.Native.Nat.{ℕ, zero, suc, _+_, _*_, _^_, _<_, _≤_}
+use mathlib.Core.Bool.{true, false, true≢false, false≢true}
+use mathlib.Core.List.{List, [], _∷_}
+use mathlib.Core.Option.{none, some}
+use mathlib.Core.Logic.{_≢_}
+use Prim.Native.Nat.{ℕ, suc, _+_, _*_, _^_, _<_, _≤_}
 use native.Mathlib.Omega.{arith}
 use native.Mathlib.Decide.{decLt}
 use lib.Dec.{lit≤}
 use Rattle.meaning.specs.Base.{yes?, if, ltb}
 use Rattle.meaning.specs.Text.{packed}
-use Rattle.meaning.specs.Ast.{Name, name, TyVar, named, fresh, same-tyvar, tyvar-before, letter, Ty, Tys, var, con, arrow, nil, _◂_, Pred, Qual, qual}
-use Rattle.meaning.specs.Map.{Map, names, tyvars, get, insert, elem}
-use Rattle.meaning.specs.Subst.{look, ftv-qual, ftv-scheme, occurs, occurs-in}
-use Rattle.meaning.specs.Plain.{Fill, sub, subs, sub-preds}
-use Rattle.meaning.specs.Cores.{internal-before, sort-by, renamer-from, canonical-renamer, as-subst, images}
-use Rattle.meaning.specs.Generalize.{Env, env-ftv}
-use Rattle.theorems.proofs.Tests.{yes?-true, yes?-of, or-cases, or-left, or-right, none-some, some-inj}
-use Rattle.theorems.proofs.Maps.{get-cons-same, get-cons-other, get-insert-same, get-insert-other}
-use Rattle.theorems.proofs.Ordered.{Below, Sorted, sorted-insert, below-none}
-use Rattle.theorems.proofs.ByteOrder.{names-ordered, tyvars-ordered}
-use Rattle.theorems.proofs.FreeVars.{elem-cons, elem-head, elem-append, elem-sort-by, elem-ftv-qual, occurs-preds, occurs-qual}
-use Rattle.theorems.proofs.Generalized.{qual-occurs}
-use Rattle.theorems.proofs.Made.{IsMade, MadeQual, MadeScheme, MadeAt, MadeEnv}
-use Rattle.theorems.proofs.MadeGeneralized.{MadeVars, ftv-made, without-made}
-use Rattle.theorems.proofs.MadeOrder.{Once, once-ftv-qual, once-without}
+use Rattle.meaning.specs.Ast.{TyVar, same-tyvar, letter}
+use Rattle.meaning.specs.Map.{tyvars, get, insert, elem}
+use Rattle.meaning.specs.Cores.{renamer-from}
+use Rattle.theorems.proofs.Tests.{or-right, none-some, some-inj}
+use Rattle.theorems.proofs.Maps.{get-insert-same}
+use Rattle.theorems.proofs.Ordered.{Sorted, sorted-insert}
+use Rattle.theorems.proofs.ByteOrder.{tyvars-ordered}
+use Rattle.theorems.proofs.FreeVars.{elem-cons, elem-head}
+use Rattle.theorems.proofs.Made.{IsMade}
+use Rattle.theorems.proofs.MadeGeneralized.{MadeVars}
+use Rattle.theorems.proofs.MadeOrder.{Once}
 use Rattle.names.proofs.Words.{same-parts}
 use Rattle.names.proofs.Tests.{lt-yes, lt-no}
-use Rattle.canonical.specs.Named.{bound}
-use Rattle.canonical.proofs.Chosen.{or-name, look-as, later-name}
-use Rattle.canonical.proofs.Bytes.{bytes-same, sort-bytes}
-use Rattle.canonical.proofs.Lettering.{bound-yes}
-use Rattle.canonical.proofs.Sorting.{bound-parts}
+use Rattle.canonical.proofs.Chosen.{later-name}
 
 -- ## letters
 -- No two letters are equal.

@@ -1,37 +1,30 @@
 -- Renaming the types of rows, and the list of their predicates: what one row gives, and the two loops.
-use mathlib.Core.Path.{_≡_, refl, ap, sym, _∙_, subst}
-use mathlib.Core.List.{List, [], _∷_, _++_, append-nil}
-use mathlib.Core.Logic.{_⊎_, inl, inr, ⊎-elim}
-use Prim.Native.Nat.{ℕ, zero, suc, _+_, _*_, _-_, _<_, _≤_}
+use mathlib.Core.Path.{_≡_, refl, sym, _∙_, subst}
+use mathlib.Core.List.{List, _∷_}
+use Prim.Native.Nat.{ℕ, _+_, _*_, _-_, _<_, _≤_}
 use native.Mathlib.Omega.{arith}
-use native.Mathlib.Decide.{ℕ-discrete}
-use native.Mathlib.Numerals.{add-one}
-use lib.ListN.{length, getD, set, length-set}
+use lib.ListN.{length, set}
 use lib.Seq.{getD-set-same, getD-set-other}
-use Rattle.meaning.specs.Base.{if, eqb, yes?, count, total}
+use Rattle.meaning.specs.Base.{count, total}
 use Rattle.meaning.specs.Ast.{Name, DictName, Ty, pred, dvar, Binder}
 use Rattle.meaning.specs.Errors as E
 use Rattle.meaning.specs.Budget.{Out, done, refused, after, depth}
 use Rattle.meaning.specs.Subst.{Subst, apply-in, apply-pred, apply-preds-pending}
-use Rattle.meaning.specs.Generalize.{preds-of}
-use Rattle.names.specs.Names.{Names, first-node, first-nullary, nameOf}
-use Rattle.ast.specs.Table.{nil-word, tree, Table, Node, Kept}
-use Rattle.ast.proofs.Laws.{kept-tree, kept-node, low-node, node-more, kept-refl, kept-then}
-use Rattle.errors.specs.Refusals.{Refuses}
+use Rattle.names.specs.Names.{nameOf}
+use Rattle.ast.specs.Table.{nil-word, tree}
+use Rattle.ast.proofs.Laws.{low-node}
 use Rattle.errors.specs.declared.Refusal.{Refusal}
-use Rattle.pairs.specs.Pairs.{Stands}
-use Rattle.pairs.proofs.Frames.{stands-refl, stands-then, stands-up}
+use Rattle.pairs.proofs.Frames.{stands-refl}
 use Rattle.apply.specs.declared.Applied.{Applied}
 use Rattle.apply.specs.declared.Applied.the-variants.{Done as Made, Refused as Not-made}
 use Rattle.supers.specs.declared.rows.Row.{Row}
 use Rattle.supers.specs.declared.rows.Row.the-variants.{Pending, Replaced}
-use Rattle.supers.specs.Rows.{mark, rowOf, rowAt, withRow, bindersFrom, bindersIn, HasWord, RowsFit, TypeIn, Binders}
-use Rattle.supers.proofs.RowLaws.{row-step, rows-end, row-open, kept-rows}
-use Rattle.simplify.proofs.RowSets.{row-words, set-others, same-rows, binders-split, binders-snoc}
-use Rattle.rename.specs.Renaming.{Renames, renamedWord, leaves}
+use Rattle.supers.specs.Rows.{rowAt, TypeIn}
+use Rattle.supers.proofs.RowLaws.{row-open}
+use Rattle.simplify.proofs.RowSets.{row-words, set-others}
+use Rattle.rename.specs.Renaming.{renamedWord}
 use Rattle.rename.specs.Renamed as R
-use Rattle.canonical.specs.Rows.{leaves-preds, ReadyRename, Letters, RowDone, RenamesRow, RowsDone, GivesRows}
-use Rattle.canonical.specs.declared.renamed.Rows.{Rows}
+use Rattle.canonical.specs.Rows.{ReadyRename, Letters, RenamesRow}
 use Rattle.canonical.specs.declared.renamed.Rows.the-variants.{Done, Refused}
 use Rattle.canonical.proofs.Chosen.{no-place}
 
@@ -152,4 +145,3 @@ module _ {ns w ls bs : List ℕ} {top left n i : ℕ} {r : Row} (G : ReadyRename
               is = λ s S os. rw (sym e ∙ k, p) (pending-goes left s (dvar d) (nameOf ns c) (tree ns w t) os (B .is s S));
             };
           }
-

@@ -121,10 +121,7 @@ pub fn list_preds(
             Row::Replaced(_, _) => {}
         }
     }
-    List {
-        list: l,
-        top: m,
-    }
+    List { list: l, top: m }
 }
 
 // `apply_preds` of the canonical renaming to the pending ones of the first n rows: the rows are renamed in place, and the

@@ -6,10 +6,6 @@ use Rattle.ast.proofs.Join.{joined, small-top}
 use Rattle.canonical.proofs.Listing.{Listing, listing, list-row, listed, list-past, list-room, list-on}
 use Rattle.canonical.proofs.renamed.list_preds.Statement.{statement}
 use Rattle.canonical.proofs.renamed.list_preds.Tie as tie
-use Rattle.canonical.proofs.renamed.list_preds.Reads as reads
-use Rattle.canonical.proofs.renamed.list_preds.Lts as lts
-use Rattle.subst.proofs.push_pred.Reads as push-pred-reads
-use Rattle.supers.proofs.rows.row_at.Reads as row-at-reads
 
 abbrev Inv-loop : tie.InvT-loop
 Inv-loop base work₀ names binders top n l₀ m₀ i₀ work l m i = Listing names (base ++ work₀) (base ++ work) binders top n l m i
@@ -17,58 +13,45 @@ Inv-loop base work₀ names binders top n l₀ m₀ i₀ work l m i = Listing na
 abbrev μ-loop : tie.MeasureT-loop
 μ-loop base work₀ names binders top n l₀ m₀ i₀ work l m i = i
 
--- src/renamed.rt:112:5
 loop-holds : tie.Need-loop-holds Inv-loop μ-loop
 loop-holds c = listing (c .before .before .before .before .pre .1)
 
--- src/renamed.rt:113:13
 sub-i : tie.Need-sub-i Inv-loop μ-loop
 sub-i c = let l = c .loop-test .taken in omega arith
 
--- src/renamed.rt:114:13
 row-at-requires : tie.Need-row-at-requires Inv-loop μ-loop
 row-at-requires c κs = list-row (c .before .loop .inv) (c .loop-test .taken)
 
--- src/renamed.rt:116:29
 enum-known-q : tie.Need-enum-known-q Inv-loop μ-loop
 enum-known-q c = search needs
 
--- src/renamed.rt:117:17
 push-pred-requires : tie.Need-push-pred-requires Inv-loop μ-loop
 push-pred-requires c κs = let r = list-room (c .before .before .before .before .before .before .loop .inv) (c .before .before .before .before .before .loop-test .taken) (c .before .before .before .before .row-at .ensures) (c .before .before .q .given .1) in let a = c .before .before .before .before .before .before .before .before .before .before .before .pre .0 in let b = c .before .before .before .before .before .before .loop .inv .more in (omega arith, r .0)
 
--- src/renamed.rt:118:21
 add-l : tie.Need-add-l Inv-loop μ-loop
 add-l c = let s = small-top (c .before .before .before .before .before .before .before .before .before .before .before .before .before .before .args .base .now) (c .before .before .before .before .before .before .before .before .before .before .before .before .before .before .args .work .now) _ (c .before .before .before .before .before .before .before .before .before .before .before .before .before .before .good .0 .0) (c .before .before .before .before .before .before .before .before .before .before .before .before .before .before .good .1 .0 .0) (list-room (c .before .before .before .before .before .before .before .before .before .loop .inv) (c .before .before .before .before .before .before .before .before .loop-test .taken) (c .before .before .before .before .before .before .before .row-at .ensures) (c .before .before .before .before .before .q .given .1) .1) in omega arith
 
--- src/renamed.rt:119:21
 add-m : tie.Need-add-m Inv-loop μ-loop
 add-m c = let s = small-top (c .before .before .before .before .before .before .before .before .before .before .before .before .before .before .args .base .now) (c .before .before .before .before .before .before .before .before .before .before .before .before .before .before .args .work .now) _ (c .before .before .before .before .before .before .before .before .before .before .before .before .before .before .good .0 .0) (c .before .before .before .before .before .before .before .before .before .before .before .before .before .before .good .1 .0 .0) (list-room (c .before .before .before .before .before .before .before .before .before .loop .inv) (c .before .before .before .before .before .before .before .before .loop-test .taken) (c .before .before .before .before .before .before .before .row-at .ensures) (c .before .before .before .before .before .q .given .1) .1) in omega arith
 
--- src/renamed.rt:112:5
 loop-less : tie.Need-loop-less Inv-loop μ-loop
 loop-less c = let l = c .before .before .before .before .before .before .before .before .loop-test .taken in omega arith
 
--- src/renamed.rt:112:5
 loop-again : tie.Need-loop-again Inv-loop μ-loop
 loop-again c = list-on (c .before .before .before .before .before .before .before .before .before .loop .inv) (c .before .before .before .before .before .before .before .before .loop-test .taken) (c .before .before .before .before .before .before .before .row-at .ensures) (c .before .before .before .before .before .q .given .1) (small-top (c .before .before .before .before .before .before .before .before .before .before .before .before .before .before .args .base .now) (c .before .before .before .before .before .before .before .before .before .before .before .before .before .before .args .work .now) _ (c .before .before .before .before .before .before .before .before .before .before .before .before .before .before .good .0 .0) (c .before .before .before .before .before .before .before .before .before .before .before .before .before .before .good .1 .0 .0) (list-room (c .before .before .before .before .before .before .before .before .before .loop .inv) (c .before .before .before .before .before .before .before .before .loop-test .taken) (c .before .before .before .before .before .before .before .row-at .ensures) (c .before .before .before .before .before .q .given .1) .1)) (c .before .before .push-pred .ensures)
 
 enum-told : tie.Need-enum-told Inv-loop μ-loop
 enum-told c = search needs
 
--- src/renamed.rt:112:5
 loop-less-2 : tie.Need-loop-less-2 Inv-loop μ-loop
 loop-less-2 c = let l = c .before .before .before .loop-test .taken in omega arith
 
--- src/renamed.rt:112:5
 loop-again-2 : tie.Need-loop-again-2 Inv-loop μ-loop
 loop-again-2 c = list-past (c .before .before .before .before .loop .inv) (c .before .before .before .loop-test .taken) (c .before .before .row-at .ensures) (c .enum-told .given .1)
 
--- src/renamed.rt:97:1
 same-length : tie.Need-same-length Inv-loop μ-loop
 same-length c = let x = joined (c .before .before .before .before .before .before .args .base .now) (c .before .before .before .before .before .before .args .work .now) in let y = joined (c .before .before .before .before .before .before .args .base .now) (c .before .loop .work) in let l = c .before .loop .inv .long in omega arith
 
--- src/renamed.rt:97:1
 returns : tie.Need-returns Inv-loop μ-loop
 returns c = listed (c .before .loop .inv) (let l = c .loop-test .left in omega arith)
 

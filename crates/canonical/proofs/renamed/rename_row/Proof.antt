@@ -1,81 +1,58 @@
 -- A row by what it says, and its type by what renaming answers.
 use native.Mathlib.Omega.{arith}
-use mathlib.Core.Path.{refl}
 use Rattle.canonical.proofs.Turns.{row-stays, row-asks, row-fits, row-refused, row-renamed}
 use borrow.Author.Needs.{needs}
 use Rattle.canonical.proofs.renamed.rename_row.Statement.{statement}
 use Rattle.canonical.proofs.renamed.rename_row.Tie as tie
-use Rattle.canonical.proofs.renamed.rename_row.Reads as reads
-use Rattle.canonical.proofs.renamed.rename_row.Lts as lts
-use Rattle.canonical.proofs.renamed.put.Reads as put-reads
-use Rattle.rename.proofs.rename.Reads as rename-reads
-use Rattle.supers.proofs.rows.row_at.Reads as row-at-reads
 
--- src/renamed.rt:49:9
 row-at-requires : tie.Need-row-at-requires
 row-at-requires c κs = search needs
 
--- src/renamed.rt:50:28
 enum-known-q : tie.Need-enum-known-q
 enum-known-q c = search needs
 
--- src/renamed.rt:51:9
 enum-told : tie.Need-enum-told
 enum-told c = search needs
 
--- src/renamed.rt:51:9
 same-length : tie.Need-same-length
 same-length c = search needs
 
--- src/renamed.rt:51:9
 returns : tie.Need-returns
 returns c = row-stays (c .before .before .before .before .before .before .before .before .before .pre .1 .0) (c .before .before .before .before .before .before .before .before .before .pre .1 .1) (c .before .before .row-at .ensures) (c .enum-told .given .1)
 
--- src/renamed.rt:53:9
 rename-requires : tie.Need-rename-requires
 rename-requires c κs = (c .before .before .before .before .before .before .before .before .before .before .before .pre .0, row-asks (c .before .before .before .before .before .before .before .before .before .before .before .pre .1 .0) (c .before .before .before .before .before .before .before .before .before .before .before .pre .1 .1) (c .before .before .before .before .row-at .ensures) (c .before .before .q .given .1))
 
--- src/renamed.rt:55:23
 enum-known-r : tie.Need-enum-known-r
 enum-known-r c = search needs
 
--- src/renamed.rt:56:26
 mul-put : tie.Need-mul-put
 mul-put c = let b = c .before .before .before .before .before .before .before .before .before .before .before .before .before .before .before .before .before .before .good .1 .1 .1 .1 .0 .0 in let f = row-fits (c .before .before .before .before .before .before .before .before .before .before .before .before .before .before .before .before .before .before .pre .1 .0) (c .before .before .before .before .before .before .before .before .before .before .before .before .before .before .before .before .before .before .pre .1 .1) (c .before .before .before .before .before .before .before .before .before .before .before .row-at .ensures) (c .before .before .before .before .before .before .before .before .before .q .given .1) in omega arith
 
--- src/renamed.rt:56:26
 add-put : tie.Need-add-put
 add-put c = let b = c .before .before .before .before .before .before .before .before .before .before .before .before .before .before .before .before .before .before .good .1 .1 .1 .1 .0 .0 in let f = row-fits (c .before .before .before .before .before .before .before .before .before .before .before .before .before .before .before .before .before .before .pre .1 .0) (c .before .before .before .before .before .before .before .before .before .before .before .before .before .before .before .before .before .before .pre .1 .1) (c .before .before .before .before .before .before .before .before .before .before .before .row-at .ensures) (c .before .before .before .before .before .before .before .before .before .q .given .1) in omega arith
 
--- src/renamed.rt:56:13
 put-requires : tie.Need-put-requires
 put-requires c κs = let f = row-fits (c .before .before .before .before .before .before .before .before .before .before .before .before .before .before .before .before .before .before .pre .1 .0) (c .before .before .before .before .before .before .before .before .before .before .before .before .before .before .before .before .before .before .pre .1 .1) (c .before .before .before .before .before .before .before .before .before .before .before .row-at .ensures) (c .before .before .before .before .before .before .before .before .before .q .given .1) in omega arith
 
--- src/renamed.rt:59:26
 enum-known-r-2 : tie.Need-enum-known-r-2
 enum-known-r-2 c = search needs
 
--- src/renamed.rt:32:1
 same-length-2 : tie.Need-same-length-2
 same-length-2 c = search needs
 
--- src/renamed.rt:32:1
 same-length-3 : tie.Need-same-length-3
 same-length-3 c = search needs
 
--- src/renamed.rt:32:1
 returns-2 : tie.Need-returns-2
 returns-2 c = row-renamed (c .before .before .before .before .before .before .before .before .before .before .before .before .before .before .before .before .before .before .before .before .before .pre .1 .0) (c .before .before .before .before .before .before .before .before .before .before .before .before .before .before .before .before .before .before .before .before .before .pre .1 .1) (c .before .before .before .before .before .before .before .before .before .before .before .before .before .before .row-at .ensures) (c .before .before .before .before .before .before .before .before .before .before .before .before .q .given .1) (c .before .before .before .before .before .before .before .before .before .rename .ensures) (c .before .before .before .before .before .r .given .1) (c .before .before .put .ensures)
 
--- src/renamed.rt:32:1
 same-length-4 : tie.Need-same-length-4
 same-length-4 c = search needs
 
--- src/renamed.rt:32:1
 same-length-5 : tie.Need-same-length-5
 same-length-5 c = search needs
 
--- src/renamed.rt:32:1
 returns-3 : tie.Need-returns-3
 returns-3 c = row-refused (c .before .before .before .before .before .before .before .before .before .before .before .before .before .before .before .before .before .pre .1 .0) (c .before .before .before .before .before .before .before .before .before .before .before .before .before .before .before .before .before .pre .1 .1) (c .before .before .before .before .before .before .before .before .before .before .row-at .ensures) (c .before .before .before .before .before .before .before .before .q .given .1) (c .before .before .before .before .before .rename .ensures) (c .before .r2 .given .1)
 

@@ -8,9 +8,6 @@ use Rattle.pairs.proofs.Frames.{long}
 use Rattle.canonical.proofs.Goes.{Going, going, turn-stops, turn-goes, all-done}
 use Rattle.canonical.proofs.renamed.rename_types.Statement.{statement}
 use Rattle.canonical.proofs.renamed.rename_types.Tie as tie
-use Rattle.canonical.proofs.renamed.rename_types.Reads as reads
-use Rattle.canonical.proofs.renamed.rename_types.Lts as lts
-use Rattle.canonical.proofs.renamed.rename_row.Reads as rename-row-reads
 
 abbrev Inv-loop : tie.InvT-loop
 Inv-loop base work₀ names letters binders₀ top left n m₀ k₀ i₀ work binders m k i = Going names (base ++ work₀) (base ++ work) letters binders₀ binders top left n i m k
@@ -18,55 +15,42 @@ Inv-loop base work₀ names letters binders₀ top left n m₀ k₀ i₀ work bi
 abbrev μ-loop : tie.MeasureT-loop
 μ-loop base work₀ names letters binders₀ top left n m₀ k₀ i₀ work binders m k i = n - i
 
--- src/renamed.rt:82:5
 loop-holds : tie.Need-loop-holds Inv-loop μ-loop
 loop-holds c = going (c .before .before .before .before .before .pre .1)
 
--- src/renamed.rt:83:13
 rename-row-requires : tie.Need-rename-row-requires Inv-loop μ-loop
 rename-row-requires c κs = let x = c .before .before .before .before .before .before .before .before .before .pre .0 in let y = c .before .before .before .loop .inv .more in (omega arith, (c .before .before .before .loop .inv .ready, c .before .before .loop-test .taken))
 
--- src/renamed.rt:85:24
 enum-known-r : tie.Need-enum-known-r Inv-loop μ-loop
 enum-known-r c = search needs
 
--- src/renamed.rt:89:27
 enum-known-r-2 : tie.Need-enum-known-r-2 Inv-loop μ-loop
 enum-known-r-2 c = search needs
 
--- src/renamed.rt:89:41
 same-length : tie.Need-same-length Inv-loop μ-loop
 same-length c = let x = joined (c .before .before .before .before .before .before .before .before .before .before .before .before .before .before .before .before .before .args .base .now) (c .before .before .before .before .before .before .before .before .before .before .before .before .before .before .before .before .before .args .work .now) in let y = joined (c .before .before .before .before .before .before .before .before .before .before .before .before .before .before .before .before .before .args .base .now) (c .before .before .before .before .before .before .before .before .before .before .before .loop .work) in let l = c .before .before .before .before .before .before .before .before .before .before .before .loop .inv .long in let k = c .before .before .before .before .before .before .before .rename-row .kept .1 .0 in omega arith
 
--- src/renamed.rt:89:41
 same-length-2 : tie.Need-same-length-2 Inv-loop μ-loop
 same-length-2 c = let l = c .before .before .before .before .before .before .before .before .before .before .before .loop .inv .rows-long in let k = c .before .before .before .before .before .before .before .rename-row .kept .1 .1 .1 .1 .0 in omega arith
 
--- src/renamed.rt:89:41
 returns : tie.Need-returns Inv-loop μ-loop
 returns c = turn-stops (c .before .before .before .before .before .before .before .before .before .before .before .loop .inv) (c .before .before .before .before .before .before .before .rename-row .ensures) (c .before .before .before .before .before .before .before .before .before .before .loop-test .taken) (c .before .r2 .given .1)
 
--- src/renamed.rt:91:9
 add-i : tie.Need-add-i Inv-loop μ-loop
 add-i c = let l = c .before .before .before .before .before .before .before .before .before .before .loop-test .taken in omega arith
 
--- src/renamed.rt:82:5
 loop-less : tie.Need-loop-less Inv-loop μ-loop
 loop-less c = let l = c .before .before .before .before .before .before .before .before .before .before .loop-test .taken in omega arith
 
--- src/renamed.rt:82:5
 loop-again : tie.Need-loop-again Inv-loop μ-loop
 loop-again c = turn-goes (c .before .before .before .before .before .before .before .before .before .before .before .loop .inv) (c .before .before .before .before .before .before .before .rename-row .ensures) (c .before .r .given .1) (c .before .before .before .before .before .before .before .before .before .before .loop-test .taken) (long (c .before .before .before .before .before .before .before .before .before .before .before .before .before .before .before .before .before .args .base .now) (c .before .before .before .before .before .before .before .rename-row .last .1 .0) (c .before .before .before .before .before .before .before .before .before .before .before .loop .work) (c .before .before .before .before .before .before .before .rename-row .kept .1 .0)) (c .before .before .before .before .before .before .before .rename-row .kept .1 .1 .1 .1 .0)
 
--- src/renamed.rt:64:1
 same-length-3 : tie.Need-same-length-3 Inv-loop μ-loop
 same-length-3 c = let x = joined (c .before .before .before .before .before .before .before .args .base .now) (c .before .before .before .before .before .before .before .args .work .now) in let y = joined (c .before .before .before .before .before .before .before .args .base .now) (c .before .loop .work) in let l = c .before .loop .inv .long in omega arith
 
--- src/renamed.rt:64:1
 same-length-4 : tie.Need-same-length-4 Inv-loop μ-loop
 same-length-4 c = c .before .loop .inv .rows-long
 
--- src/renamed.rt:64:1
 returns-2 : tie.Need-returns-2 Inv-loop μ-loop
 returns-2 c = all-done (c .before .loop .inv) (let l = c .loop-test .left in omega arith)
 
