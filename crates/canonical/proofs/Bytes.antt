@@ -3,15 +3,14 @@ use mathlib.Core.Path.{_≡_, refl, ap, ap₂, sym, _∙_, subst}
 use mathlib.Core.Bool.{Bool, true, false, true≢false, false≢true}
 use mathlib.Core.List.{List, [], _∷_, _++_}
 use mathlib.Core.Logic.{_≢_}
-use Prim.Native.Nat.{ℕ, suc, _+_, _≤_}
-use native.Mathlib.Omega.{arith}
+use Prim.Native.Nat.{suc, _+_}
 use Rattle.meaning.specs.Base.{yes?, if, count}
 use Rattle.meaning.specs.Ast.{TyVar, same-tyvar, tyvar-before}
 use Rattle.meaning.specs.Map.{tyvars, elem}
 use Rattle.meaning.specs.Cores.{put, sort-by}
-use Rattle.theorems.proofs.Tests.{no?-of, or-right, or-cases, yes?-true}
+use Rattle.theorems.proofs.Tests.{no?-of, or-right}
 use Rattle.theorems.proofs.ByteOrder.{tyvars-ordered}
-use Rattle.theorems.proofs.FreeVars.{elem-head, elem-cons, elem-append, elem-sort-by}
+use Rattle.theorems.proofs.FreeVars.{elem-head, elem-cons, elem-sort-by}
 use Rattle.theorems.proofs.MadeOrder.{Once}
 
 -- Each variable lies before all later ones.

@@ -1,14 +1,14 @@
 -- The words that are chosen one after the other, and that giving them the letters is the canonical renaming.
 use mathlib.Core.Path.{_≡_, refl, ap, sym, _∙_, subst}
-use mathlib.Core.Bool.{Bool, true, false, not, _&&_, true≢false, false≢true}
-use mathlib.Core.List.{List, [], _∷_, _++_, append-nil}
+use mathlib.Core.Bool.{Bool, true, false, true≢false, false≢true}
+use mathlib.Core.List.{List, [], _∷_}
 use mathlib.Core.Option.{Option, none, some}
 use mathlib.Core.Logic.{_≢_}
-use Prim.Native.Nat.{ℕ, zero, suc, _+_, _-_, _<_, _≤_}
+use Prim.Native.Nat.{ℕ, suc, _+_, _-_, _<_, _≤_}
 use native.Mathlib.Omega.{arith}
 use native.Mathlib.Decide.{ℕ-discrete, decLt}
-use Rattle.meaning.specs.Base.{yes?, if, eqb, ltb}
-use Rattle.meaning.specs.Ast.{TyVar, named, fresh, same-tyvar, letter, var, Qual}
+use Rattle.meaning.specs.Base.{yes?, if, ltb}
+use Rattle.meaning.specs.Ast.{TyVar, named, fresh, same-tyvar, letter, var}
 use Rattle.meaning.specs.Map.{Map, tyvars, get, insert, elem}
 use Rattle.meaning.specs.Subst.{or-var, look}
 use Rattle.meaning.specs.Cores.{internal-before, sort-by, renamer-from, canonical-renamer, as-subst}
@@ -17,7 +17,7 @@ use Rattle.theorems.proofs.Maps.{get-insert-same, get-insert-other}
 use Rattle.theorems.proofs.FreeVars.{elem-head, elem-cons, elem-sort-by}
 use Rattle.theorems.proofs.Made.{IsMade}
 use Rattle.theorems.proofs.MadeGeneralized.{MadeVars}
-use Rattle.theorems.proofs.MadeOrder.{Rising, Once, sort-rising, made-irrefl}
+use Rattle.theorems.proofs.MadeOrder.{Rising, Once, sort-rising}
 use Rattle.names.specs.Names.{Names, first-fresh, first-nullary, first-node, variableOf, tyvarOf}
 use Rattle.names.specs.declared.Kind.{Kind}
 use Rattle.names.proofs.Tests.{lt-yes, lt-no, eq-yes, eq-no}
@@ -56,7 +56,7 @@ elem-more : (x v : TyVar) (vs : List TyVar) → elem tyvars x vs ≡ true → el
 elem-more x v vs e = elem-cons x v vs ∙ or-right (yes? (same-tyvar x v)) (elem tyvars x vs) e
 
 -- No word has a place in the empty list.
-no-place : (w : List ℕ) (x : ℕ) → posIn w nil-word x ≡ none
+pub no-place : (w : List ℕ) (x : ℕ) → posIn w nil-word x ≡ none
 unfolding posIn posF
 no-place w x = rw (cell-low w nil-word (omega arith)) refl
 
@@ -103,12 +103,12 @@ made-below ns (fresh m) x i h e =
 
 -- ## the renaming
 -- A new name, or the old one where there is none.
-abbrev or-name : TyVar → Option TyVar → TyVar
+abbrev pub or-name : TyVar → Option TyVar → TyVar
 or-name x none = x
 or-name x (some y) = y
 
 -- A renaming as a substitution says of a variable its new name.
-look-as : (x : TyVar) (r : Map TyVar TyVar) → look (as-subst r) x ≡ var (or-name x (get tyvars x r))
+pub look-as : (x : TyVar) (r : Map TyVar TyVar) → look (as-subst r) x ≡ var (or-name x (get tyvars x r))
 unfolding get or-var
 look-as x [] = refl
 look-as x (p ∷ r) = go (same-tyvar x (p .0)) (look-as x r)
@@ -129,7 +129,7 @@ late x k (v ∷ vs) h = rw (lt-no k 26 h) (go (same-tyvar x v) (late x (suc k) v
     go (no n) ih = ap (or-name x) (get-insert-other tyvars x (v, v) (renamer-from (suc k) vs) n) ∙ ih
 
 -- A variable that is not in the list gets no name.
-absent : (x : TyVar) (k : ℕ) (vs : List TyVar) → elem tyvars x vs ≡ false → get tyvars x (renamer-from k vs) ≡ none
+pub absent : (x : TyVar) (k : ℕ) (vs : List TyVar) → elem tyvars x vs ≡ false → get tyvars x (renamer-from k vs) ≡ none
 unfolding renamer-from get elem
 absent x k [] e = refl
 absent x k (v ∷ vs) e = go (same-tyvar x v) refl (absent x (suc k) vs)
@@ -145,7 +145,7 @@ unfolding renamer-from
 first-name v k vs h = rw (lt-yes k 26 h) (ap (or-name v) (get-insert-same tyvars v (letter k) (renamer-from (suc k) vs)))
 
 -- Another one its name among the rest.
-later-name : (x v : TyVar) (k : ℕ) (vs : List TyVar) → x ≢ v → get tyvars x (renamer-from k (v ∷ vs)) ≡ get tyvars x (renamer-from (suc k) vs)
+pub later-name : (x v : TyVar) (k : ℕ) (vs : List TyVar) → x ≢ v → get tyvars x (renamer-from k (v ∷ vs)) ≡ get tyvars x (renamer-from (suc k) vs)
 unfolding renamer-from
 later-name x v k vs h = get-insert-other tyvars x (v, if (ltb k 26) (letter k) v) (renamer-from (suc k) vs) h
 

@@ -15,11 +15,9 @@ use Rattle.meaning.specs.Subst.{ftv-qual}
 use Rattle.meaning.specs.Cores.{canonical-renamer, as-subst}
 use Rattle.meaning.specs.Generalize.{Env, env-ftv}
 use Rattle.theorems.proofs.FreeVars.{elem-without, elem-ftv-qual, occurs-qual}
-use Rattle.theorems.proofs.Made.{MadeQual}
 use Rattle.theorems.proofs.MadeGeneralized.{ftv-made, without-made}
 use Rattle.theorems.proofs.MadeOrder.{once-ftv-qual, once-without}
-use Rattle.names.specs.Names.{Names, first-fresh, first-nullary, variableOf, tyvarOf}
-use Rattle.names.specs.declared.Kind.{Kind}
+use Rattle.names.specs.Names.{Names, first-fresh, first-nullary, tyvarOf}
 use Rattle.names.proofs.Where.{is-named}
 use Rattle.ast.specs.Table.{nil-word}
 use Rattle.rows.specs.BuiltIns.{built-ins, BuiltIns}

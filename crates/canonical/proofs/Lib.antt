@@ -4,3 +4,9 @@ pub mod Lettering
 pub mod Bytes
 pub mod Lasts
 pub mod Sorting
+pub mod Turns
+pub mod Goes
+pub mod Listing
+pub mod NewNames
+pub mod Images
+pub mod Fewer

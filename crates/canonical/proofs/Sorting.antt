@@ -1,9 +1,9 @@
 -- The loop of `sorted_vars`: from the last variable on each is put before those that follow it.
 use mathlib.Core.Path.{_≡_, refl, ap, sym, _∙_, subst}
-use mathlib.Core.Bool.{Bool, true, false, not, _||_, _&&_, true≢false, false≢true}
+use mathlib.Core.Bool.{Bool, true, false, not, _||_, _&&_, false≢true}
 use mathlib.Core.List.{List, [], _∷_, _++_, append-nil, append-assoc}
 use mathlib.Core.Logic.{_⊎_, ⊎-elim}
-use Prim.Native.Nat.{ℕ, zero, suc, _+_, _*_, _-_, _^_, _<_, _≤_}
+use Prim.Native.Nat.{ℕ, suc, _+_, _*_, _-_, _<_, _≤_}
 use native.Mathlib.Omega.{arith}
 use lib.ListN.{length}
 use Rattle.meaning.specs.Base.{count}
@@ -16,10 +16,10 @@ use Rattle.theorems.proofs.Tests.{and-left, and-right}
 use Rattle.theorems.proofs.ByteOrder.{tyvars-ordered}
 use Rattle.theorems.proofs.FreeVars.{elem-head, elem-without, elem-sort-by, elem-ftv-types, elem-ftv-preds, elem-ftv-qual, occurs-preds, occurs-qual}
 use Rattle.theorems.proofs.MadeOrder.{Once, once-ftv-qual, once-without}
-use Rattle.names.specs.Names.{Names, first-node, tyvarOf}
+use Rattle.names.specs.Names.{first-node, tyvarOf}
 use Rattle.ast.specs.Table.{nil-word, tree, list, Node, pushed}
-use Rattle.ast.proofs.Laws.{kept-tree, kept-node, low-node, node-more}
-use Rattle.ast.proofs.NewNode.{Pushed, pushed-old}
+use Rattle.ast.proofs.Laws.{kept-tree, low-node}
+use Rattle.ast.proofs.NewNode.{pushed-old}
 use Rattle.vars.specs.Vars.{varsOf}
 use Rattle.vars.proofs.VarLaws.{low-vars, push-vars}
 use Rattle.pairs.specs.Pairs.{Stands}
@@ -115,7 +115,7 @@ ahead-few {ns} {vs} {behind} A =
 
 -- ## the loop
 -- A bound variable occurs, and the environment has it not.
-bound-parts : (v : TyVar) (q : Qual) (env : Env) → elem tyvars v (bound q env) ≡ true → (occurs-qual v q ≡ true) × (elem tyvars v (env-ftv env) ≡ false)
+pub bound-parts : (v : TyVar) (q : Qual) (env : Env) → elem tyvars v (bound q env) ≡ true → (occurs-qual v q ≡ true) × (elem tyvars v (env-ftv env) ≡ false)
 bound-parts v q env e =
     let f : (elem tyvars v (ftv-qual q) && not (elem tyvars v (env-ftv env))) ≡ true = sym (elem-without v (ftv-qual q) (env-ftv env)) ∙ e in
     (sym (elem-ftv-qual v q) ∙ and-left (elem tyvars v (ftv-qual q)) _ f, unnot (elem tyvars v (env-ftv env)) (and-right (elem tyvars v (ftv-qual q)) _ f))
@@ -182,8 +182,11 @@ module _ {ns w w′ ev od : List ℕ} {top ps t l n : ℕ} {last r : Pick} (G : 
     next-ahead : (x < first-node + n) × Ahead ns (bound (listQual ns w ps t) (envOf ns w ev od)) (Word x) (tyvarOf ns x ∷ varsOf ns w′ l)
     next-ahead =
         let M : Last ns (freeIn ns w ev od) (λ v. occurs-qual v (listQual ns w ps t)) n last Nothing (Word x) = rw k at first-last in
-        ⊎-elim (λ e. absurd (let z : _≡_ {A = ℕ} 0 1 = cc in omega arith)) (λ f. (f .0, ahead-on x (G .ahead) (bound-yes (tyvarOf ns x) (listQual ns w ps t) (envOf ns w ev od) (f .1 .0) (f .1 .1 .0)) (f .1 .1 .1)
-            (λ v i u. let p = bound-parts v (listQual ns w ps t) (envOf ns w ev od) i in M .most v (p .0) (p .1) u))) (M .found)
+        ⊎-elim (λ e. absurd (let z : _≡_ {A = ℕ} 0 1 = cc in omega arith)) (λ f. (
+          f .0,
+          ahead-on x (G .ahead) (bound-yes (tyvarOf ns x) (listQual ns w ps t) (envOf ns w ev od) (f .1 .0) (f .1 .1 .0)) (f .1 .1 .1)
+              (λ v i u. let p = bound-parts v (listQual ns w ps t) (envOf ns w ev od) i in M .most v (p .0) (p .1) u),
+        )) (M .found)
 
     -- There is room for its cell.
     pub sorts-room : (4 * n + 4 ≤ length w′) × ((4 * n + 4 ≤ length w) × (n < top + count (bound (listQual ns w ps t) (envOf ns w ev od))))

@@ -2,20 +2,20 @@
 use ast::Cell;
 use ast::Shape;
 use supers::rows::Row;
-ghost use mathlib.Core.Path.{_≡_};
 ghost use mathlib.Core.List.{_++_};
 ghost use Prim.Native.Nat.{_<_, _≤_};
 ghost use lib.ListN.{length};
 ghost use Rattle.meaning.specs.Ast.{var};
 ghost use Rattle.meaning.specs.Subst.{occurs, occurs-in};
 ghost use Rattle.theorems.proofs.FreeVars.{occurs-qual};
-ghost use Rattle.names.specs.Names.{first-fresh, first-nullary, tyvarOf};
+ghost use Rattle.names.specs.Names.{first-nullary, tyvarOf};
 ghost use Rattle.ast.specs.Table.{tree, list};
 ghost use Rattle.supers.specs.Rows.{rowAt, Binders};
 ghost use Rattle.scope.specs.Scope.{envOf};
 ghost use Rattle.canonical.specs.Picks.{Least};
 ghost use Rattle.canonical.specs.Named.{freeIn, rowHas, ReadyVar, ReadyType, ReadyRows, rowsQual, Lettered};
 
+pub mod renamed;
 pub mod sorted;
 
 // A variable's word that a walk picked, or none.
@@ -153,7 +153,19 @@ fn least_above(
     let mut best = least_in(base, work, names, env, order, top, from, names::NULLARY, t);
     let mut i: usize = 0;
     while i < n {
-        best = least_row(base, work, names, env, order, binders, top, from, best, n, i);
+        best = least_row(
+            base,
+            work,
+            names,
+            env,
+            order,
+            binders,
+            top,
+            from,
+            best,
+            n,
+            i,
+        );
         i += 1;
     }
     best

@@ -1,8 +1,7 @@
 // The variables that a scheme binds, as a list in byte order.
+use crate::Pick;
 use ast::Cell;
 use ast::Shape;
-use crate::Pick;
-ghost use mathlib.Core.Path.{_≡_};
 ghost use mathlib.Core.List.{_++_};
 ghost use Prim.Native.Nat.{_*_, _≤_};
 ghost use lib.ListN.{length};
@@ -168,10 +167,7 @@ pub fn sorted_vars(
         let p = last_before(base, work, names, env, order, n, last, ps, t);
         match p {
             Pick::Nothing => {
-                return Vars {
-                    list: l,
-                    top: n,
-                };
+                return Vars { list: l, top: n };
             }
             Pick::Word(x) => {
                 ast::push(base, work, n, 3, x, l);

@@ -39,75 +39,57 @@ abbrev least-list-below : ℕ → In 5 least-list-kinds.ps
 least-list-below t =
     and 5 least-list-kinds.ps (falls 5 least-list-kinds.ps _<_ μ-least-list t) least-list.Pre
 
--- src/lib.rt:68:9
 least-in-shape-at-requires : (t : ℕ) → least-in-lts.Need-shape-at-requires (shape-at-reads.Asked, shape-at-reads.Learnt, least-var-reads.Asked, least-var-reads.Learnt, least-list-below t, least-list.Post, least-in-below t, least-in.Post) (least-in-at t) least-in.Post
 least-in-shape-at-requires t c κs = node-room (c .before .before .before .before .before .pre .1 .node)
 
--- src/lib.rt:70:20
 least-in-enum-known-s : (t : ℕ) → least-in-lts.Need-enum-known-s (shape-at-reads.Asked, shape-at-reads.Learnt, least-var-reads.Asked, least-var-reads.Learnt, least-list-below t, least-list.Post, least-in-below t, least-in.Post) (least-in-at t) least-in.Post
 least-in-enum-known-s t c = search needs
 
--- src/lib.rt:70:26
 least-in-least-var-requires : (t : ℕ) → least-in-lts.Need-least-var-requires (shape-at-reads.Asked, shape-at-reads.Learnt, least-var-reads.Asked, least-var-reads.Learnt, least-list-below t, least-list.Post, least-in-below t, least-in.Post) (least-in-at t) least-in.Post
 least-in-least-var-requires t c κs = c .before .before .before .before .before .before .before .before .before .pre .1 .env
 
--- src/lib.rt:71:23
 least-in-enum-known-s-2 : (t : ℕ) → least-in-lts.Need-enum-known-s-2 (shape-at-reads.Asked, shape-at-reads.Learnt, least-var-reads.Asked, least-var-reads.Learnt, least-list-below t, least-list.Post, least-in-below t, least-in.Post) (least-in-at t) least-in.Post
 least-in-enum-known-s-2 t c = search needs
 
--- src/lib.rt:71:29
 least-in-least-list-requires : (t : ℕ) → least-in-lts.Need-least-list-requires (shape-at-reads.Asked, shape-at-reads.Learnt, least-var-reads.Asked, least-var-reads.Learnt, least-list-below t, least-list.Post, least-in-below t, least-in.Post) (least-in-at t) least-in.Post
 least-in-least-list-requires t c κs = let k = con-child (c .before .before .before .before .before .before .before .before .before .pre .1 .node) (c .before .before .before .shape-at .ensures) (c .before .s2 .given .1) in (omega arith, ready-at (c .before .before .before .before .before .before .before .before .before .pre .1) (k .1))
 
--- src/lib.rt:72:22
 least-in-enum-known-s-3 : (t : ℕ) → least-in-lts.Need-enum-known-s-3 (shape-at-reads.Asked, shape-at-reads.Learnt, least-var-reads.Asked, least-var-reads.Learnt, least-list-below t, least-list.Post, least-in-below t, least-in.Post) (least-in-at t) least-in.Post
 least-in-enum-known-s-3 t c = search needs
 
--- src/lib.rt:73:17
 least-in-least-in-requires : (t : ℕ) → least-in-lts.Need-least-in-requires (shape-at-reads.Asked, shape-at-reads.Learnt, least-var-reads.Asked, least-var-reads.Learnt, least-list-below t, least-list.Post, least-in-below t, least-in.Post) (least-in-at t) least-in.Post
 least-in-least-in-requires t c κs = let k = arrow-left (c .before .before .before .before .before .before .before .before .before .pre .1 .node) (c .before .before .before .shape-at .ensures) (c .before .s3 .given .1) in (omega arith, ready-at (c .before .before .before .before .before .before .before .before .before .pre .1) (k .1))
 
--- src/lib.rt:74:13
 least-in-least-in-requires-2 : (t : ℕ) → least-in-lts.Need-least-in-requires-2 (shape-at-reads.Asked, shape-at-reads.Learnt, least-var-reads.Asked, least-var-reads.Learnt, least-list-below t, least-list.Post, least-in-below t, least-in.Post) (least-in-at t) least-in.Post
 least-in-least-in-requires-2 t c κs = let k = arrow-right (c .before .before .before .before .before .before .before .before .before .before .pre .1 .node) (c .before .before .before .before .shape-at .ensures) (c .before .before .s3 .given .1) in (omega arith, ready-at (c .before .before .before .before .before .before .before .before .before .before .pre .1) (k .1))
 
--- src/lib.rt:53:1
 least-in-returns : (t : ℕ) → least-in-lts.Need-returns (shape-at-reads.Asked, shape-at-reads.Learnt, least-var-reads.Asked, least-var-reads.Learnt, least-list-below t, least-list.Post, least-in-below t, least-in.Post) (least-in-at t) least-in.Post
 least-in-returns t c = least-var _ (c .before .before .before .before .before .before .before .before .before .before .pre .1 .node) (c .before .before .before .before .shape-at .ensures) (c .before .before .s .given .1) (c .least-var .ensures)
 
--- src/lib.rt:53:1
 least-in-returns-2 : (t : ℕ) → least-in-lts.Need-returns-2 (shape-at-reads.Asked, shape-at-reads.Learnt, least-var-reads.Asked, least-var-reads.Learnt, least-list-below t, least-list.Post, least-in-below t, least-in.Post) (least-in-at t) least-in.Post
 least-in-returns-2 t c = least-con _ (c .before .before .before .before .before .before .before .before .before .before .pre .1 .node) (c .before .before .before .before .shape-at .ensures) (c .before .before .s2 .given .1) (c .least-list .ensures)
 
--- src/lib.rt:53:1
 least-in-returns-3 : (t : ℕ) → least-in-lts.Need-returns-3 (shape-at-reads.Asked, shape-at-reads.Learnt, least-var-reads.Asked, least-var-reads.Learnt, least-list-below t, least-list.Post, least-in-below t, least-in.Post) (least-in-at t) least-in.Post
 least-in-returns-3 t c = least-arrow _ (c .before .before .before .before .before .before .before .before .before .before .before .pre .1 .node) (c .before .before .before .before .before .shape-at .ensures) (c .before .before .before .s3 .given .1) (c .before .least-in .ensures) (c .least-in2 .ensures)
 
--- src/lib.rt:95:9
 least-list-cell-at-requires : (t : ℕ) → least-list-lts.Need-cell-at-requires (cell-at-reads.Asked, cell-at-reads.Learnt, least-in-below t, least-in.Post, least-list-below t, least-list.Post) (least-list-at t) least-list.Post
 least-list-cell-at-requires t c κs = node-room (c .before .before .before .before .before .pre .1 .node)
 
--- src/lib.rt:97:22
 least-list-enum-told : (t : ℕ) → least-list-lts.Need-enum-told (cell-at-reads.Asked, cell-at-reads.Learnt, least-in-below t, least-in.Post, least-list-below t, least-list.Post) (least-list-at t) least-list.Post
 least-list-enum-told t c = search needs
 
--- src/lib.rt:98:20
 least-list-enum-known-c : (t : ℕ) → least-list-lts.Need-enum-known-c (cell-at-reads.Asked, cell-at-reads.Learnt, least-in-below t, least-in.Post, least-list-below t, least-list.Post) (least-list-at t) least-list.Post
 least-list-enum-known-c t c = search needs
 
--- src/lib.rt:99:17
 least-list-least-in-requires : (t : ℕ) → least-list-lts.Need-least-in-requires (cell-at-reads.Asked, cell-at-reads.Learnt, least-in-below t, least-in.Post, least-list-below t, least-list.Post) (least-list-at t) least-list.Post
 least-list-least-in-requires t c κs = let k = cons-head (c .before .before .before .before .before .before .before .before .before .pre .1 .node) (c .before .before .before .cell-at .ensures) (c .before .c .given .1) in (omega arith, ready-at (c .before .before .before .before .before .before .before .before .before .pre .1) (k .1))
 
--- src/lib.rt:100:13
 least-list-least-list-requires : (t : ℕ) → least-list-lts.Need-least-list-requires (cell-at-reads.Asked, cell-at-reads.Learnt, least-in-below t, least-in.Post, least-list-below t, least-list.Post) (least-list-at t) least-list.Post
 least-list-least-list-requires t c κs = let k = cons-tail (c .before .before .before .before .before .before .before .before .before .before .pre .1 .node) (c .before .before .before .before .cell-at .ensures) (c .before .before .c .given .1) in (omega arith, ready-at (c .before .before .before .before .before .before .before .before .before .before .pre .1) (k .1))
 
--- src/lib.rt:80:1
 least-list-returns : (t : ℕ) → least-list-lts.Need-returns (cell-at-reads.Asked, cell-at-reads.Learnt, least-in-below t, least-in.Post, least-list-below t, least-list.Post) (least-list-at t) least-list.Post
 least-list-returns t c = least-nil _ (c .before .before .before .before .before .before .before .before .pre .1 .node) (c .before .before .cell-at .ensures) (c .enum-told .given .1)
 
--- src/lib.rt:80:1
 least-list-returns-2 : (t : ℕ) → least-list-lts.Need-returns-2 (cell-at-reads.Asked, cell-at-reads.Learnt, least-in-below t, least-in.Post, least-list-below t, least-list.Post) (least-list-at t) least-list.Post
 least-list-returns-2 t c = least-cons _ (c .before .before .before .before .before .before .before .before .before .before .before .pre .1 .node) (c .before .before .before .before .before .cell-at .ensures) (c .before .before .before .c .given .1) (c .before .least-in .ensures) (c .least-list .ensures)
 

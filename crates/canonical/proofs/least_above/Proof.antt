@@ -6,10 +6,6 @@ use Rattle.canonical.specs.Named.{freeIn}
 use Rattle.canonical.proofs.Leasts.{Leasting, leasting, leasted, leasts-on}
 use Rattle.canonical.proofs.least_above.Statement.{statement}
 use Rattle.canonical.proofs.least_above.Tie as tie
-use Rattle.canonical.proofs.least_above.Reads as reads
-use Rattle.canonical.proofs.least_above.Lts as lts
-use Rattle.canonical.proofs.least_in.Reads as least-in-reads
-use Rattle.canonical.proofs.least_row.Reads as least-row-reads
 
 abbrev Inv-loop : tie.InvT-loop
 Inv-loop base work names env order binders top from n t best₀ i₀ best i = Leasting names (base ++ work) binders (freeIn names (base ++ work) env order) from n t best i
@@ -17,31 +13,24 @@ Inv-loop base work names env order binders top from n t best₀ i₀ best i = Le
 abbrev μ-loop : tie.MeasureT-loop
 μ-loop base work names env order binders top from n t best₀ i₀ best i = n - i
 
--- src/lib.rt:151:9
 least-in-requires : tie.Need-least-in-requires Inv-loop μ-loop
 least-in-requires c κs = c .before .before .before .before .before .before .pre .type
 
--- src/lib.rt:153:5
 loop-holds : tie.Need-loop-holds Inv-loop μ-loop
 loop-holds c = leasting (c .least-in .ensures)
 
--- src/lib.rt:154:9
 least-row-requires : tie.Need-least-row-requires Inv-loop μ-loop
 least-row-requires c κs = (c .before .before .before .before .before .before .before .before .before .pre .type .env, (c .before .before .before .before .before .before .before .before .before .pre .binders, c .loop-test .taken))
 
--- src/lib.rt:155:9
 add-i : tie.Need-add-i Inv-loop μ-loop
 add-i c = let l = c .before .loop-test .taken in omega arith
 
--- src/lib.rt:153:5
 loop-less : tie.Need-loop-less Inv-loop μ-loop
 loop-less c = let l = c .before .loop-test .taken in omega arith
 
--- src/lib.rt:153:5
 loop-again : tie.Need-loop-again Inv-loop μ-loop
 loop-again c = leasts-on (c .before .before .loop .inv) (c .before .loop-test .taken) (c .least-row .ensures)
 
--- src/lib.rt:135:1
 returns : tie.Need-returns Inv-loop μ-loop
 returns c = leasted (c .before .loop .inv) (let l = c .loop-test .left in omega arith)
 

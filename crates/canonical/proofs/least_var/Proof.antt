@@ -1,30 +1,21 @@
 -- Each way out by its law of `Leasts`.
 use native.Mathlib.Omega.{arith}
 use Rattle.canonical.proofs.Leasts.{least-low, least-high, least-free, least-new}
-use borrow.Author.Needs.{needs}
 use Rattle.canonical.proofs.least_var.Statement.{statement}
 use Rattle.canonical.proofs.least_var.Tie as tie
-use Rattle.canonical.proofs.least_var.Reads as reads
-use Rattle.canonical.proofs.least_var.Lts as lts
-use Rattle.scope.proofs.is_free.Reads as is-free-reads
 
--- src/lib.rt:41:9
 returns : tie.Need-returns
 returns c = least-low (c .before .before .before .before .before .before .pre .names) _ (c .if1 .taken)
 
--- src/lib.rt:44:9
 returns-2 : tie.Need-returns-2
 returns-2 c = least-high (c .before .before .before .before .before .before .before .pre .names) _ (c .if2 .taken)
 
--- src/lib.rt:46:8
 is-free-requires : tie.Need-is-free-requires
 is-free-requires c κs = (c .before .before .before .before .before .before .before .pre .names, c .before .before .before .before .before .before .before .pre .scope)
 
--- src/lib.rt:47:9
 returns-3 : tie.Need-returns-3
 returns-3 c = least-free (c .before .before .before .before .before .before .before .before .before .pre .names) _ (c .before .is-free .ensures) (c .if3 .taken)
 
--- src/lib.rt:25:1
 returns-4 : tie.Need-returns-4
 returns-4 c = let a = c .before .before .before .if1 .left in let b = c .before .before .if2 .left in least-new (c .before .before .before .before .before .before .before .before .before .pre .names) _ (omega arith) (omega arith) (c .before .is-free .ensures) (c .if3 .left)
 

@@ -9,9 +9,6 @@ use Rattle.canonical.specs.Named.{rowsQual}
 use Rattle.canonical.proofs.Lettering.{Lettering, lettering, letters-on, letters-full, letters-over}
 use Rattle.canonical.proofs.letters.Statement.{statement}
 use Rattle.canonical.proofs.letters.Tie as tie
-use Rattle.canonical.proofs.letters.Reads as reads
-use Rattle.canonical.proofs.letters.Lts as lts
-use Rattle.canonical.proofs.least_above.Reads as least-above-reads
 
 abbrev Inv-loop : tie.InvT-loop
 Inv-loop base work names env order binders out₀ top n t from₀ k₀ out from k = Lettering names (rowsQual names (base ++ work) binders n t) (envOf names (base ++ work) env order) out from k × (length out ≡ length out₀)
@@ -19,51 +16,39 @@ Inv-loop base work names env order binders out₀ top n t from₀ k₀ out from 
 abbrev μ-loop : tie.MeasureT-loop
 μ-loop base work names env order binders out₀ top n t from₀ k₀ out from k = 26 - k
 
--- src/lib.rt:185:5
 loop-holds : tie.Need-loop-holds Inv-loop μ-loop
 loop-holds c = (lettering _ _ _ _ (c .before .before .before .before .before .before .before .pre .1), refl)
 
--- src/lib.rt:186:13
 least-above-requires : tie.Need-least-above-requires Inv-loop μ-loop
 least-above-requires c κs = c .before .before .before .before .before .before .before .before .before .pre .0
 
--- src/lib.rt:188:13
 same-length : tie.Need-same-length Inv-loop μ-loop
 same-length c = c .before .before .before .loop .inv .1
 
--- src/lib.rt:188:13
 returns : tie.Need-returns Inv-loop μ-loop
 returns c = letters-over _ (c .before .before .before .before .before .before .before .before .before .before .before .pre .0 .type .env .names) (c .before .before .before .loop .inv .0) (c .before .least-above .ensures) (c .if1 .taken)
 
--- src/lib.rt:190:9
 mul-out : tie.Need-mul-out Inv-loop μ-loop
 mul-out c = let l = c .before .before .loop-test .taken in omega arith
 
--- src/lib.rt:190:9
 slice-write-out : tie.Need-slice-write-out Inv-loop μ-loop
 slice-write-out c = let l = c .before .before .loop-test .taken in let o = c .before .before .before .loop .inv .0 .long in omega arith
 
--- src/lib.rt:191:16
 add-from : tie.Need-add-from Inv-loop μ-loop
 add-from c = let l = c .if1 .left in omega arith
 
--- src/lib.rt:192:9
 add-k : tie.Need-add-k Inv-loop μ-loop
 add-k c = let l = c .before .before .loop-test .taken in omega arith
 
--- src/lib.rt:185:5
 loop-less : tie.Need-loop-less Inv-loop μ-loop
 loop-less c = let l = c .before .before .loop-test .taken in omega arith
 
--- src/lib.rt:185:5
 loop-again : tie.Need-loop-again Inv-loop μ-loop
 loop-again c = (letters-on (c .before .before .before .loop .inv .0) (c .before .least-above .ensures) (c .before .before .loop-test .taken) (let l = c .if1 .left in omega arith) refl, length-set (c .before .before .before .loop .out) _ _ ∙ c .before .before .before .loop .inv .1)
 
--- src/lib.rt:166:1
 same-length-2 : tie.Need-same-length-2 Inv-loop μ-loop
 same-length-2 c = c .before .loop .inv .1
 
--- src/lib.rt:166:1
 returns-2 : tie.Need-returns-2 Inv-loop μ-loop
 returns-2 c = letters-full _ (c .before .before .before .before .before .before .before .before .before .pre .0 .type .env .names) (c .before .loop .inv .0) (let l = c .loop-test .left in omega arith)
 

@@ -38,75 +38,57 @@ abbrev last-list-below : ℕ → In 5 last-list-kinds.ps
 last-list-below t =
     and 5 last-list-kinds.ps (falls 5 last-list-kinds.ps _<_ μ-last-list t) last-list.Pre
 
--- src/sorted.rt:88:9
 last-in-shape-at-requires : (t : ℕ) → last-in-lts.Need-shape-at-requires (shape-at-reads.Asked, shape-at-reads.Learnt, last-var-reads.Asked, last-var-reads.Learnt, last-list-below t, last-list.Post, last-in-below t, last-in.Post) (last-in-at t) last-in.Post
 last-in-shape-at-requires t c κs = node-room (c .before .before .before .before .before .pre .1 .node)
 
--- src/sorted.rt:90:20
 last-in-enum-known-s : (t : ℕ) → last-in-lts.Need-enum-known-s (shape-at-reads.Asked, shape-at-reads.Learnt, last-var-reads.Asked, last-var-reads.Learnt, last-list-below t, last-list.Post, last-in-below t, last-in.Post) (last-in-at t) last-in.Post
 last-in-enum-known-s t c = search needs
 
--- src/sorted.rt:90:26
 last-in-last-var-requires : (t : ℕ) → last-in-lts.Need-last-var-requires (shape-at-reads.Asked, shape-at-reads.Learnt, last-var-reads.Asked, last-var-reads.Learnt, last-list-below t, last-list.Post, last-in-below t, last-in.Post) (last-in-at t) last-in.Post
 last-in-last-var-requires t c κs = ready-at (c .before .before .before .before .before .before .before .before .before .pre .1) (var-node (c .before .before .before .before .before .before .before .before .before .pre .1 .node) (c .before .before .before .shape-at .ensures) (c .before .s .given .1))
 
--- src/sorted.rt:91:23
 last-in-enum-known-s-2 : (t : ℕ) → last-in-lts.Need-enum-known-s-2 (shape-at-reads.Asked, shape-at-reads.Learnt, last-var-reads.Asked, last-var-reads.Learnt, last-list-below t, last-list.Post, last-in-below t, last-in.Post) (last-in-at t) last-in.Post
 last-in-enum-known-s-2 t c = search needs
 
--- src/sorted.rt:91:29
 last-in-last-list-requires : (t : ℕ) → last-in-lts.Need-last-list-requires (shape-at-reads.Asked, shape-at-reads.Learnt, last-var-reads.Asked, last-var-reads.Learnt, last-list-below t, last-list.Post, last-in-below t, last-in.Post) (last-in-at t) last-in.Post
 last-in-last-list-requires t c κs = let k = con-child (c .before .before .before .before .before .before .before .before .before .pre .1 .node) (c .before .before .before .shape-at .ensures) (c .before .s2 .given .1) in (omega arith, ready-at (c .before .before .before .before .before .before .before .before .before .pre .1) (k .1))
 
--- src/sorted.rt:92:22
 last-in-enum-known-s-3 : (t : ℕ) → last-in-lts.Need-enum-known-s-3 (shape-at-reads.Asked, shape-at-reads.Learnt, last-var-reads.Asked, last-var-reads.Learnt, last-list-below t, last-list.Post, last-in-below t, last-in.Post) (last-in-at t) last-in.Post
 last-in-enum-known-s-3 t c = search needs
 
--- src/sorted.rt:93:17
 last-in-last-in-requires : (t : ℕ) → last-in-lts.Need-last-in-requires (shape-at-reads.Asked, shape-at-reads.Learnt, last-var-reads.Asked, last-var-reads.Learnt, last-list-below t, last-list.Post, last-in-below t, last-in.Post) (last-in-at t) last-in.Post
 last-in-last-in-requires t c κs = let k = arrow-left (c .before .before .before .before .before .before .before .before .before .pre .1 .node) (c .before .before .before .shape-at .ensures) (c .before .s3 .given .1) in (omega arith, ready-at (c .before .before .before .before .before .before .before .before .before .pre .1) (k .1))
 
--- src/sorted.rt:94:13
 last-in-last-in-requires-2 : (t : ℕ) → last-in-lts.Need-last-in-requires-2 (shape-at-reads.Asked, shape-at-reads.Learnt, last-var-reads.Asked, last-var-reads.Learnt, last-list-below t, last-list.Post, last-in-below t, last-in.Post) (last-in-at t) last-in.Post
 last-in-last-in-requires-2 t c κs = let k = arrow-right (c .before .before .before .before .before .before .before .before .before .before .pre .1 .node) (c .before .before .before .before .shape-at .ensures) (c .before .before .s3 .given .1) in (omega arith, ready-at (c .before .before .before .before .before .before .before .before .before .before .pre .1) (k .1))
 
--- src/sorted.rt:73:1
 last-in-returns : (t : ℕ) → last-in-lts.Need-returns (shape-at-reads.Asked, shape-at-reads.Learnt, last-var-reads.Asked, last-var-reads.Learnt, last-list-below t, last-list.Post, last-in-below t, last-in.Post) (last-in-at t) last-in.Post
 last-in-returns t c = last-var _ (c .before .before .before .before .before .before .before .before .before .before .pre .1 .node) (c .before .before .before .before .shape-at .ensures) (c .before .before .s .given .1) (c .last-var .ensures)
 
--- src/sorted.rt:73:1
 last-in-returns-2 : (t : ℕ) → last-in-lts.Need-returns-2 (shape-at-reads.Asked, shape-at-reads.Learnt, last-var-reads.Asked, last-var-reads.Learnt, last-list-below t, last-list.Post, last-in-below t, last-in.Post) (last-in-at t) last-in.Post
 last-in-returns-2 t c = last-con _ (c .before .before .before .before .before .before .before .before .before .before .pre .1 .node) (c .before .before .before .before .shape-at .ensures) (c .before .before .s2 .given .1) (c .last-list .ensures)
 
--- src/sorted.rt:73:1
 last-in-returns-3 : (t : ℕ) → last-in-lts.Need-returns-3 (shape-at-reads.Asked, shape-at-reads.Learnt, last-var-reads.Asked, last-var-reads.Learnt, last-list-below t, last-list.Post, last-in-below t, last-in.Post) (last-in-at t) last-in.Post
 last-in-returns-3 t c = last-arrow _ (c .before .before .before .before .before .before .before .before .before .before .before .pre .1 .node) (c .before .before .before .before .before .shape-at .ensures) (c .before .before .before .s3 .given .1) (c .before .last-in .ensures) (c .last-in2 .ensures)
 
--- src/sorted.rt:115:9
 last-list-cell-at-requires : (t : ℕ) → last-list-lts.Need-cell-at-requires (cell-at-reads.Asked, cell-at-reads.Learnt, last-in-below t, last-in.Post, last-list-below t, last-list.Post) (last-list-at t) last-list.Post
 last-list-cell-at-requires t c κs = node-room (c .before .before .before .before .before .pre .1 .node)
 
--- src/sorted.rt:117:22
 last-list-enum-told : (t : ℕ) → last-list-lts.Need-enum-told (cell-at-reads.Asked, cell-at-reads.Learnt, last-in-below t, last-in.Post, last-list-below t, last-list.Post) (last-list-at t) last-list.Post
 last-list-enum-told t c = search needs
 
--- src/sorted.rt:118:20
 last-list-enum-known-c : (t : ℕ) → last-list-lts.Need-enum-known-c (cell-at-reads.Asked, cell-at-reads.Learnt, last-in-below t, last-in.Post, last-list-below t, last-list.Post) (last-list-at t) last-list.Post
 last-list-enum-known-c t c = search needs
 
--- src/sorted.rt:119:17
 last-list-last-in-requires : (t : ℕ) → last-list-lts.Need-last-in-requires (cell-at-reads.Asked, cell-at-reads.Learnt, last-in-below t, last-in.Post, last-list-below t, last-list.Post) (last-list-at t) last-list.Post
 last-list-last-in-requires t c κs = let k = cons-head (c .before .before .before .before .before .before .before .before .before .pre .1 .node) (c .before .before .before .cell-at .ensures) (c .before .c .given .1) in (omega arith, ready-at (c .before .before .before .before .before .before .before .before .before .pre .1) (k .1))
 
--- src/sorted.rt:120:13
 last-list-last-list-requires : (t : ℕ) → last-list-lts.Need-last-list-requires (cell-at-reads.Asked, cell-at-reads.Learnt, last-in-below t, last-in.Post, last-list-below t, last-list.Post) (last-list-at t) last-list.Post
 last-list-last-list-requires t c κs = let k = cons-tail (c .before .before .before .before .before .before .before .before .before .before .pre .1 .node) (c .before .before .before .before .cell-at .ensures) (c .before .before .c .given .1) in (omega arith, ready-at (c .before .before .before .before .before .before .before .before .before .before .pre .1) (k .1))
 
--- src/sorted.rt:100:1
 last-list-returns : (t : ℕ) → last-list-lts.Need-returns (cell-at-reads.Asked, cell-at-reads.Learnt, last-in-below t, last-in.Post, last-list-below t, last-list.Post) (last-list-at t) last-list.Post
 last-list-returns t c = last-nil _ (c .before .before .before .before .before .before .before .before .pre .1 .node) (c .before .before .cell-at .ensures) (c .enum-told .given .1)
 
--- src/sorted.rt:100:1
 last-list-returns-2 : (t : ℕ) → last-list-lts.Need-returns-2 (cell-at-reads.Asked, cell-at-reads.Learnt, last-in-below t, last-in.Post, last-list-below t, last-list.Post) (last-list-at t) last-list.Post
 last-list-returns-2 t c = last-cons _ (c .before .before .before .before .before .before .before .before .before .before .before .pre .1 .node) (c .before .before .before .before .before .cell-at .ensures) (c .before .before .before .c .given .1) (c .before .last-in .ensures) (c .last-list .ensures)
 

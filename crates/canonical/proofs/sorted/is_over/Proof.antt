@@ -3,27 +3,19 @@ use Rattle.canonical.proofs.Lasts.{over-nothing, over-word}
 use borrow.Author.Needs.{needs}
 use Rattle.canonical.proofs.sorted.is_over.Statement.{statement}
 use Rattle.canonical.proofs.sorted.is_over.Tie as tie
-use Rattle.canonical.proofs.sorted.is_over.Reads as reads
-use Rattle.canonical.proofs.sorted.is_over.Lts as lts
-use Rattle.names.proofs.before.Reads as before-reads
 
--- src/sorted.rt:39:26
 enum-told : tie.Need-enum-told
 enum-told c = search needs
 
--- src/sorted.rt:40:20
 enum-known-p : tie.Need-enum-known-p
 enum-known-p c = search needs
 
--- src/sorted.rt:40:26
 before-requires : tie.Need-before-requires
 before-requires c κs = search needs
 
--- src/sorted.rt:35:1
 returns : tie.Need-returns
 returns c = over-nothing _ _ _ (c .enum-told .given .1)
 
--- src/sorted.rt:35:1
 returns-2 : tie.Need-returns-2
 returns-2 c = over-word _ _ _ _ (c .before .before .p .given .1) (c .before2 .ensures)
 

@@ -3,27 +3,19 @@ use Rattle.canonical.proofs.Lasts.{under-nothing, under-word}
 use borrow.Author.Needs.{needs}
 use Rattle.canonical.proofs.sorted.is_under.Statement.{statement}
 use Rattle.canonical.proofs.sorted.is_under.Tie as tie
-use Rattle.canonical.proofs.sorted.is_under.Reads as reads
-use Rattle.canonical.proofs.sorted.is_under.Lts as lts
-use Rattle.names.proofs.before.Reads as before-reads
 
--- src/sorted.rt:29:26
 enum-told : tie.Need-enum-told
 enum-told c = search needs
 
--- src/sorted.rt:30:20
 enum-known-p : tie.Need-enum-known-p
 enum-known-p c = search needs
 
--- src/sorted.rt:30:26
 before-requires : tie.Need-before-requires
 before-requires c κs = search needs
 
--- src/sorted.rt:25:1
 returns : tie.Need-returns
 returns c = under-nothing _ _ _ (c .enum-told .given .1)
 
--- src/sorted.rt:25:1
 returns-2 : tie.Need-returns-2
 returns-2 c = under-word _ _ _ _ (c .before .before .p .given .1) (c .before2 .ensures)
 

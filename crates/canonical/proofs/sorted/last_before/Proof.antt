@@ -3,20 +3,13 @@ use Rattle.canonical.proofs.Sorting.{last-qual}
 use borrow.Author.Needs.{needs}
 use Rattle.canonical.proofs.sorted.last_before.Statement.{statement}
 use Rattle.canonical.proofs.sorted.last_before.Tie as tie
-use Rattle.canonical.proofs.sorted.last_before.Reads as reads
-use Rattle.canonical.proofs.sorted.last_before.Lts as lts
-use Rattle.canonical.proofs.sorted.last_in.Reads as last-in-reads
-use Rattle.canonical.proofs.sorted.last_list.Reads as last-list-reads
 
--- src/sorted.rt:142:9
 last-list-requires : tie.Need-last-list-requires
 last-list-requires c κs = search needs
 
--- src/sorted.rt:143:5
 last-in-requires : tie.Need-last-in-requires
 last-in-requires c κs = search needs
 
--- src/sorted.rt:126:1
 returns : tie.Need-returns
 returns c = last-qual _ (c .before .before .before .before .before .before .before .pre .1) (c .before .last-list .ensures) (c .last-in .ensures)
 

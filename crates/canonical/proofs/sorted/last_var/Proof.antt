@@ -3,37 +3,25 @@ use Rattle.canonical.proofs.Lasts.{last-high, last-low, last-free, last
 use borrow.Author.Needs.{needs}
 use Rattle.canonical.proofs.sorted.last_var.Statement.{statement}
 use Rattle.canonical.proofs.sorted.last_var.Tie as tie
-use Rattle.canonical.proofs.sorted.last_var.Reads as reads
-use Rattle.canonical.proofs.sorted.last_var.Lts as lts
-use Rattle.canonical.proofs.sorted.is_over.Reads as is-over-reads
-use Rattle.canonical.proofs.sorted.is_under.Reads as is-under-reads
-use Rattle.scope.proofs.is_free.Reads as is-free-reads
 
--- src/sorted.rt:60:8
 is-under-requires : tie.Need-is-under-requires
 is-under-requires c κs = search needs
 
--- src/sorted.rt:61:12
 is-over-requires : tie.Need-is-over-requires
 is-over-requires c κs = search needs
 
--- src/sorted.rt:62:16
 is-free-requires : tie.Need-is-free-requires
 is-free-requires c κs = (c .before .before .before .before .before .before .before .before .before .pre .env .names, c .before .before .before .before .before .before .before .before .before .pre .env .scope)
 
--- src/sorted.rt:63:17
 returns : tie.Need-returns
 returns c = last-free _ (c .before .before .before .before .before .before .before .before .before .before .before .pre .node .below) (c .before .is-free .ensures) (c .if3 .taken)
 
--- src/sorted.rt:65:13
 returns-2 : tie.Need-returns-2
 returns-2 c = last-new _ (c .before .before .before .before .before .before .before .before .before .before .before .pre .node .below) (c .before .before .before .before .before .is-under .ensures) (c .before .before .before .before .if1 .taken) (c .before .before .before .is-over .ensures) (c .before .before .if2 .taken) (c .before .is-free .ensures) (c .if3 .left)
 
--- src/sorted.rt:67:9
 returns-3 : tie.Need-returns-3
 returns-3 c = last-low _ (c .before .before .before .before .before .before .before .before .before .pre .node .below) (c .before .is-over .ensures) (c .if2 .left)
 
--- src/sorted.rt:45:1
 returns-4 : tie.Need-returns-4
 returns-4 c = last-high _ (c .before .before .before .before .before .before .before .pre .node .below) (c .before .is-under .ensures) (c .if1 .left)
 

@@ -10,10 +10,6 @@ use Rattle.canonical.specs.Named.{listQual, bound}
 use Rattle.canonical.proofs.Sorting.{Sorting, sorting, sorts-end, sorts-room, sorts-on}
 use Rattle.canonical.proofs.sorted.sorted_vars.Statement.{statement}
 use Rattle.canonical.proofs.sorted.sorted_vars.Tie as tie
-use Rattle.canonical.proofs.sorted.sorted_vars.Reads as reads
-use Rattle.canonical.proofs.sorted.sorted_vars.Lts as lts
-use Rattle.ast.proofs.push.Reads as push-reads
-use Rattle.canonical.proofs.sorted.last_before.Reads as last-before-reads
 
 abbrev Inv-loop : tie.InvT-loop
 Inv-loop base work₀ names env order top ps t l₀ n₀ last₀ work l n last = Sorting names (base ++ work₀) (base ++ work) env order top ps t l n last
@@ -21,47 +17,36 @@ Inv-loop base work₀ names env order top ps t l₀ n₀ last₀ work l n last =
 abbrev μ-loop : tie.MeasureT-loop
 μ-loop base work₀ names env order top ps t l₀ n₀ last₀ work l n last = top + count (bound (listQual names (base ++ work₀) ps t) (envOf names (base ++ work₀) env order)) - n
 
--- src/sorted.rt:167:5
 loop-holds : tie.Need-loop-holds Inv-loop μ-loop
 loop-holds c = sorting (c .before .before .before .before .before .pre .1)
 
--- src/sorted.rt:168:13
 last-before-requires : tie.Need-last-before-requires Inv-loop μ-loop
 last-before-requires c κs = (c .before .loop .inv .ready, c .before .loop .inv .preds)
 
--- src/sorted.rt:171:17
 enum-told : tie.Need-enum-told Inv-loop μ-loop
 enum-told c = search needs
 
--- src/sorted.rt:171:17
 same-length : tie.Need-same-length Inv-loop μ-loop
 same-length c = let x = joined (c .before .before .before .before .before .before .before .before .before .before .args .base .now) (c .before .before .before .before .before .before .before .before .before .before .args .work .now) in let y = joined (c .before .before .before .before .before .before .before .before .before .before .args .base .now) (c .before .before .before .before .loop .work) in let l = c .before .before .before .before .loop .inv .long in omega arith
 
--- src/sorted.rt:171:17
 returns : tie.Need-returns Inv-loop μ-loop
 returns c = sorts-end (c .before .before .before .before .loop .inv) (c .before .before .last-before .ensures) (c .enum-told .given .1)
 
--- src/sorted.rt:176:24
 enum-known-p : tie.Need-enum-known-p Inv-loop μ-loop
 enum-known-p c = search needs
 
--- src/sorted.rt:177:17
 push-requires : tie.Need-push-requires Inv-loop μ-loop
 push-requires c κs = let r = sorts-room (c .before .before .before .before .before .before .loop .inv) (c .before .before .before .before .last-before .ensures) (c .before .before .p .given .1) in let a = c .before .before .before .before .before .before .before .before .before .before .before .before .pre .0 in let b = c .before .before .before .before .before .before .loop .inv .more in (omega arith, r .0)
 
--- src/sorted.rt:178:21
 add-l : tie.Need-add-l Inv-loop μ-loop
 add-l c = let r = sorts-room (c .before .before .before .before .before .before .before .before .before .loop .inv) (c .before .before .before .before .before .before .before .last-before .ensures) (c .before .before .before .before .before .p .given .1) in let s = small-top (c .before .before .before .before .before .before .before .before .before .before .before .before .before .before .before .args .base .now) (c .before .before .before .before .before .before .before .before .before .before .before .before .before .before .before .args .work .now) _ (c .before .before .before .before .before .before .before .before .before .before .before .before .before .before .before .good .0 .0) (c .before .before .before .before .before .before .before .before .before .before .before .before .before .before .before .good .1 .0 .0) (r .1 .0) in omega arith
 
--- src/sorted.rt:179:21
 add-n : tie.Need-add-n Inv-loop μ-loop
 add-n c = let r = sorts-room (c .before .before .before .before .before .before .before .before .before .loop .inv) (c .before .before .before .before .before .before .before .last-before .ensures) (c .before .before .before .before .before .p .given .1) in let s = small-top (c .before .before .before .before .before .before .before .before .before .before .before .before .before .before .before .args .base .now) (c .before .before .before .before .before .before .before .before .before .before .before .before .before .before .before .args .work .now) _ (c .before .before .before .before .before .before .before .before .before .before .before .before .before .before .before .good .0 .0) (c .before .before .before .before .before .before .before .before .before .before .before .before .before .before .before .good .1 .0 .0) (r .1 .0) in omega arith
 
--- src/sorted.rt:167:5
 loop-less : tie.Need-loop-less Inv-loop μ-loop
 loop-less c = let r = sorts-room (c .before .before .before .before .before .before .before .before .before .loop .inv) (c .before .before .before .before .before .before .before .last-before .ensures) (c .before .before .before .before .before .p .given .1) .1 .1 in omega arith
 
--- src/sorted.rt:167:5
 loop-again : tie.Need-loop-again Inv-loop μ-loop
 loop-again c = let r = sorts-room (c .before .before .before .before .before .before .before .before .before .loop .inv) (c .before .before .before .before .before .before .before .last-before .ensures) (c .before .before .before .before .before .p .given .1) in sorts-on (c .before .before .before .before .before .before .before .before .before .loop .inv) (c .before .before .before .before .before .before .before .last-before .ensures) (c .before .before .before .before .before .p .given .1) (small-top (c .before .before .before .before .before .before .before .before .before .before .before .before .before .before .before .args .base .now) (c .before .before .before .before .before .before .before .before .before .before .before .before .before .before .before .args .work .now) _ (c .before .before .before .before .before .before .before .before .before .before .before .before .before .before .before .good .0 .0) (c .before .before .before .before .before .before .before .before .before .before .before .before .before .before .before .good .1 .0 .0) (r .1 .0)) (c .before .before .push .ensures)
 
