@@ -1,0 +1,4 @@
+pub mod Arms
+pub mod Ways
+pub mod ListWays
+pub mod TypeWays
