@@ -1,8 +1,8 @@
 -- What the walk does at each kind of term: one law for each arm.
-use mathlib.Core.Path.{_≡_, refl, sym, _∙_}
+use mathlib.Core.Path.{_≡_, refl, _∙_}
 use mathlib.Core.Bool.{Bool}
 use mathlib.Core.List.{List, []}
-use Prim.Native.Nat.{ℕ, zero, suc, _+_, _*_, _-_, _<_, _≤_}
+use Prim.Native.Nat.{ℕ, zero, suc, _-_, _<_}
 use native.Mathlib.Numerals.{sub-one}
 use native.Mathlib.Omega.{arith}
 use Rattle.meaning.specs.Ast.{Core, cabs, capp, clet, dict-abs, dict-app, dict-proj, dict-rec, method, super}
@@ -10,8 +10,8 @@ use Rattle.meaning.specs.Errors as E
 use Rattle.meaning.specs.Budget.{Out, done, refused, step}
 use Rattle.meaning.specs.Subst.{Subst, apply-in}
 use Rattle.meaning.specs.Cores.{apply-core-node, apply-core-in}
-use Rattle.names.specs.Names.{first-nullary, first-node, nameOf}
-use Rattle.ast.specs.Table.{tree, Node, Kept}
+use Rattle.names.specs.Names.{nameOf}
+use Rattle.ast.specs.Table.{tree, Node}
 use Rattle.ast.proofs.Laws.{no-nodes, low-node}
 use Rattle.cores.specs.declared.Part.{Part}
 use Rattle.cores.specs.declared.Part.the-variants.{Var, Dict, Context, Own, Bool as A-Bool, Int, Abs, App, Let, DictAbs, DictApp, Method, Super, Rec}
@@ -63,13 +63,13 @@ unfolding apply-core-in
 core-deep d l s c e = rw e
 
 -- No step is left.
-core-spent : (d l : ℕ) (s : Subst) (c : Core) → (d ≡ 0 → ⊥) → l ≡ 0 → apply-core-in d s c l ≡ refused E.out-of-steps 0
+pub core-spent : (d l : ℕ) (s : Subst) (c : Core) → (d ≡ 0 → ⊥) → l ≡ 0 → apply-core-in d s c l ≡ refused E.out-of-steps 0
 unfolding apply-core-in step
 core-spent zero l s c p q = absurd (p refl)
 core-spent (suc d) l s c p q = rw q
 
 -- One step, then the node.
-core-step : (d l : ℕ) (s : Subst) (c : Core) → (d ≡ 0 → ⊥) → (l ≡ 0 → ⊥) → apply-core-in d s c l ≡ nodeOut (d - 1) (l - 1) s c
+pub core-step : (d l : ℕ) (s : Subst) (c : Core) → (d ≡ 0 → ⊥) → (l ≡ 0 → ⊥) → apply-core-in d s c l ≡ nodeOut (d - 1) (l - 1) s c
 unfolding apply-core-in step
 core-step zero l s c p q = absurd (p refl)
 core-step (suc d) zero s c p q = absurd (q refl)

@@ -1,20 +1,19 @@
 -- The ways out of the functions for the types in a term, from what the calls gave.
-use mathlib.Core.Path.{_≡_, refl, ap, sym, _∙_}
+use mathlib.Core.Path.{_≡_, refl, sym, _∙_}
 use mathlib.Core.List.{List, _∷_}
-use Prim.Native.Nat.{ℕ, _+_, _*_, _-_, _/_, _%_, _^_, _<_, _≤_}
+use Prim.Native.Nat.{ℕ, _+_, _*_, _/_, _%_, _^_, _<_, _≤_}
 use native.Mathlib.Omega.{arith}
-use lib.ListN.{length, getD}
+use lib.ListN.{length}
 use Rattle.meaning.specs.Ast.{dict-rec, dvar, pred, Binder}
 use Rattle.meaning.specs.Budget.{Out, Steps, done, refused, after}
 use Rattle.meaning.specs.Subst.{apply-in, apply-pred, apply-preds-pending}
-use Rattle.meaning.specs.Cores.{apply-core-node, apply-core-in}
+use Rattle.meaning.specs.Cores.{apply-core-node}
 use Rattle.names.specs.Names.{first-node, nameOf}
-use Rattle.ast.specs.Table.{cellOf, tree, Node, Kept}
+use Rattle.ast.specs.Table.{cellOf, tree, Node}
 use Rattle.ast.specs.declared.Cell.{Cell}
 use Rattle.ast.specs.declared.Cell.the-variants.{Nil, Cons}
 use Rattle.ast.proofs.Ranges.{cons-node}
-use Rattle.ast.proofs.Laws.{cell-at, kept-tree, node-more, node-room, cons-head, cons-tail}
-use Rattle.ast.proofs.NewNode.{Pushed}
+use Rattle.ast.proofs.Laws.{kept-tree, node-more, node-room, cons-head, cons-tail}
 use Rattle.errors.specs.declared.Refusal.{Refusal}
 use Rattle.cores.specs.Parts.{pushedFour}
 use Rattle.cores.specs.Binders.{fourthAt, bindersOf}
@@ -56,7 +55,7 @@ module _ {ns w w₁ ls : List ℕ} {top left u : ℕ} (R : ReadyLetters ns w ls 
 -- ## A list of binders
 
 -- What follows what follows.
-in-turn : {A B C : Type 0} (o : Out A) (f : A → Steps B) (g : B → Steps C) → after (after o f) g ≡ after o (λ a l. after (f a l) g)
+pub in-turn : {A B C : Type 0} (o : Out A) (f : A → Steps B) (g : B → Steps C) → after (after o f) g ≡ after o (λ a l. after (f a l) g)
 unfolding after
 in-turn (done a l) f g = refl
 in-turn (refused q l) f g = refl

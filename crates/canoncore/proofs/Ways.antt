@@ -4,7 +4,7 @@ use mathlib.Core.List.{List}
 use Prim.Native.Nat.{ℕ, _+_, _*_, _^_, _<_, _≤_}
 use native.Mathlib.Omega.{arith}
 use lib.ListN.{length}
-use Rattle.meaning.specs.Ast.{cabs, capp, clet, dict-abs, dict-app, dict-proj, method, super}
+use Rattle.meaning.specs.Ast.{Binder, cabs, capp, clet, dict-abs, dict-app, dict-proj, method, super}
 use Rattle.meaning.specs.Budget.{Out, done, after}
 use Rattle.meaning.specs.Subst.{Subst, apply-preds-pending}
 use Rattle.meaning.specs.Cores.{each-core, apply-core-node, apply-core-in}
@@ -21,7 +21,6 @@ use Rattle.cores.proofs.NewTerm.{four-stands, push-function, push-called, push-
 use Rattle.apply.specs.declared.Applied.{Applied}
 use Rattle.apply.specs.declared.Applied.the-variants.{Done, Refused}
 use Rattle.apply.proofs.Ways.{Room}
-use Rattle.terms.specs.Answers.{GivesFor}
 use Rattle.terms.proofs.Handing.{Thens, made, fails, one-room, one-done, two-refused, two-room, two-done}
 use Rattle.canoncore.specs.Lettered.{Lettered, ReadyLetters, GivesLettered, nodeOut}
 
@@ -179,18 +178,18 @@ module _ {ns w w₁ ls : List ℕ} {top left e : ℕ} (depth : ℕ) (R : ReadyLe
             (λ ns. push-applied ns (applied-room .room) (applied-room .small) (node-more (made H i .node .table) (made H i .more) (made G h .node)) (made H i .node) p) (four-stands w₂ t₂ 8 m m₂ 0 p _ (omega arith))
             (λ s u. rw (kept-core ns (H .stands .low) (made G h .node)))
 
--- ## After the call for the binders v, and then for the term b
+-- ## After the call for some binders, and then for the term b
 
-module _ {ns w w₁ ls : List ℕ} {top left v : ℕ} (depth : ℕ) (R : ReadyLetters ns w ls top left v) {r₁ : Applied} (G : GivesLettered bindersOf 0 ns ls w w₁ top left (λ s. apply-preds-pending s (bindersOf ns w v) left) r₁)
+module _ {ns w w₁ ls : List ℕ} {top left : ℕ} (depth : ℕ) (bl : List Binder) (wide : 4 * top + 8 * left ≤ length w) {r₁ : Applied} (G : GivesLettered bindersOf 0 ns ls w w₁ top left (λ s. apply-preds-pending s bl left) r₁)
     {b : ℕ} (B : Node w top b) where
   -- The binders, then the term.
-  under-then : Thens (Lettered ns ls) (λ s. nodeOut depth left s (dict-abs (bindersOf ns w v) (core ns w b))) (λ s. apply-preds-pending s (bindersOf ns w v) left)
+  under-then : Thens (Lettered ns ls) (λ s. nodeOut depth left s (dict-abs bl (core ns w b))) (λ s. apply-preds-pending s bl left)
       (λ s cs l. after (apply-core-in depth s (core ns w b) l) (λ u l₂. done (dict-abs cs u) l₂))
   unfolding apply-core-node
   under-then = record { at = λ s h. refl }
 
   -- The binders are refused.
-  pub under-refused : {q : Refusal} {t₁ l₁ : ℕ} → r₁ ≡ Refused q t₁ l₁ → GivesLettered core 0 ns ls w w₁ top left (λ s. nodeOut depth left s (dict-abs (bindersOf ns w v) (core ns w b))) (Refused q t₁ l₁)
+  pub under-refused : {q : Refusal} {t₁ l₁ : ℕ} → r₁ ≡ Refused q t₁ l₁ → GivesLettered core 0 ns ls w w₁ top left (λ s. nodeOut depth left s (dict-abs bl (core ns w b))) (Refused q t₁ l₁)
   under-refused h = fails G under-then h
 
   module _ {m t₁ l₁ : ℕ} (h : r₁ ≡ Done m t₁ l₁) {w₂ : List ℕ} {r₂ : Applied} (H : GivesLettered core 4 ns ls w₁ w₂ t₁ l₁ (λ s. apply-core-in depth s (core ns w₁ b) l₁) r₂) where
@@ -200,16 +199,16 @@ module _ {ns w w₁ ls : List ℕ} {top left v : ℕ} (depth : ℕ) (R : ReadyLe
     under-next = record { at = λ s u. rw (kept-core ns (G .stands .low) B) }
 
     -- The term is refused.
-    pub under-refused-2 : {q : Refusal} {t₂ l₂ : ℕ} → r₂ ≡ Refused q t₂ l₂ → GivesLettered core 0 ns ls w w₂ top left (λ s. nodeOut depth left s (dict-abs (bindersOf ns w v) (core ns w b))) (Refused q t₂ l₂)
+    pub under-refused-2 : {q : Refusal} {t₂ l₂ : ℕ} → r₂ ≡ Refused q t₂ l₂ → GivesLettered core 0 ns ls w w₂ top left (λ s. nodeOut depth left s (dict-abs bl (core ns w b))) (Refused q t₂ l₂)
     under-refused-2 i = two-refused G h H under-then under-next i
 
     module _ {m₂ t₂ l₂ : ℕ} (i : r₂ ≡ Done m₂ t₂ l₂) (len : length w₂ ≡ length w) (big : length w < 2 ^ 65) where
       -- There is room for the node.
       pub under-room : Room w₂ top t₂
-      under-room = two-room G h H i (omega arith) (R .room) len big
+      under-room = two-room G h H i (omega arith) wide len big
 
       -- The node is the answer.
-      pub under-done : {w₃ : List ℕ} → w₃ ≡ pushedFour w₂ t₂ 7 m m₂ 0 → GivesLettered core 0 ns ls w w₃ top left (λ s. nodeOut depth left s (dict-abs (bindersOf ns w v) (core ns w b))) (Done (first-node + t₂) (t₂ + 1) l₂)
+      pub under-done : {w₃ : List ℕ} → w₃ ≡ pushedFour w₂ t₂ 7 m m₂ 0 → GivesLettered core 0 ns ls w w₃ top left (λ s. nodeOut depth left s (dict-abs bl (core ns w b))) (Done (first-node + t₂) (t₂ + 1) l₂)
       under-done p = two-done G h H i (omega arith) (λ ns. dict-abs (bindersOf ns w₂ m) (core ns w₂ m₂)) under-then under-next
           (λ ns. push-under ns (under-room .room) (under-room .small) (node-more (made H i .node .table) (made H i .more) (made G h .node)) (made H i .node) p) (four-stands w₂ t₂ 7 m m₂ 0 p _ (omega arith))
           (λ s u. rw (kept-binders ns (H .stands .low) (made G h .node)))

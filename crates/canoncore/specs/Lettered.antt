@@ -1,5 +1,4 @@
 -- What renaming the type variables of a core term asks of the words and gives.
-use mathlib.Core.Path.{_≡_}
 use mathlib.Core.List.{List, []}
 use Prim.Native.Nat.{ℕ, _+_, _*_, _≤_}
 use lib.ListN.{length}

@@ -271,15 +271,15 @@ in-dict-abs-enum-known-q t c = search needs
 
 -- src/lib.rt:182:21
 in-dict-abs-push-dict-abs-requires : (t : ℕ) → in-dict-abs-lts.Need-push-dict-abs-requires (rename-binders-reads.Asked, rename-binders-reads.Learnt, rename-core-below t, rename-core.Post, push-dict-abs-reads.Asked, push-dict-abs-reads.Learnt) (in-dict-abs-at t) in-dict-abs.Post
-in-dict-abs-push-dict-abs-requires t c κs = let q = under-room _ (c .before .before .before .before .before .before .before .before .before .before .before .before .before .before .before .before .before .before .before .pre .1 .1 .0) (c .before .before .before .before .before .before .before .before .before .before .before .before .before .rename-binders .ensures) (c .before .before .before .before .before .before .before .before .before .before .before .before .before .before .before .before .before .before .before .pre .1 .1 .1) (c .before .before .before .before .before .before .before .before .before .r .given .1) (c .before .before .before .before .before .before .rename-core .ensures) (c .before .before .q .given .1) (long (c .before .before .before .before .before .before .before .before .before .before .before .before .before .before .before .before .before .before .before .args .base .now) (c .before .before .before .before .before .before .rename-core .last .1 .0) (c .before .before .before .before .before .before .before .before .before .before .before .before .before .before .before .before .before .before .before .args .work .now) (c .before .before .before .before .before .before .rename-core .kept .1 .0 ∙ c .before .before .before .before .before .before .before .before .before .before .before .before .before .rename-binders .kept .1 .0)) (both-fit (c .before .before .before .before .before .before .before .before .before .before .before .before .before .before .before .before .before .before .before .args .base .now) (c .before .before .before .before .before .before .before .before .before .before .before .before .before .before .before .before .before .before .before .args .work .now) (c .before .before .before .before .before .before .before .before .before .before .before .before .before .before .before .before .before .before .before .good .0 .0) (c .before .before .before .before .before .before .before .before .before .before .before .before .before .before .before .before .before .before .before .good .1 .0 .0)) in let m = q .more in let cl = c .before .before .before .before .before .before .before .before .before .before .before .before .before .before .before .before .before .before .before .pre .1 .0 in (omega arith, q .room)
+in-dict-abs-push-dict-abs-requires t c κs = let q = under-room _ _ (c .before .before .before .before .before .before .before .before .before .before .before .before .before .before .before .before .before .before .before .pre .1 .1 .0 .room) (c .before .before .before .before .before .before .before .before .before .before .before .before .before .rename-binders .ensures) (c .before .before .before .before .before .before .before .before .before .before .before .before .before .before .before .before .before .before .before .pre .1 .1 .1) (c .before .before .before .before .before .before .before .before .before .r .given .1) (c .before .before .before .before .before .before .rename-core .ensures) (c .before .before .q .given .1) (long (c .before .before .before .before .before .before .before .before .before .before .before .before .before .before .before .before .before .before .before .args .base .now) (c .before .before .before .before .before .before .rename-core .last .1 .0) (c .before .before .before .before .before .before .before .before .before .before .before .before .before .before .before .before .before .before .before .args .work .now) (c .before .before .before .before .before .before .rename-core .kept .1 .0 ∙ c .before .before .before .before .before .before .before .before .before .before .before .before .before .rename-binders .kept .1 .0)) (both-fit (c .before .before .before .before .before .before .before .before .before .before .before .before .before .before .before .before .before .before .before .args .base .now) (c .before .before .before .before .before .before .before .before .before .before .before .before .before .before .before .before .before .before .before .args .work .now) (c .before .before .before .before .before .before .before .before .before .before .before .before .before .before .before .before .before .before .before .good .0 .0) (c .before .before .before .before .before .before .before .before .before .before .before .before .before .before .before .before .before .before .before .good .1 .0 .0)) in let m = q .more in let cl = c .before .before .before .before .before .before .before .before .before .before .before .before .before .before .before .before .before .before .before .pre .1 .0 in (omega arith, q .room)
 
 -- src/lib.rt:183:35
 in-dict-abs-add-t33 : (t : ℕ) → in-dict-abs-lts.Need-add-t33 (rename-binders-reads.Asked, rename-binders-reads.Learnt, rename-core-below t, rename-core.Post, push-dict-abs-reads.Asked, push-dict-abs-reads.Learnt) (in-dict-abs-at t) in-dict-abs.Post
-in-dict-abs-add-t33 t c = let q = under-room _ (c .before .before .before .before .before .before .before .before .before .before .before .before .before .before .before .before .before .before .before .before .before .before .pre .1 .1 .0) (c .before .before .before .before .before .before .before .before .before .before .before .before .before .before .before .before .rename-binders .ensures) (c .before .before .before .before .before .before .before .before .before .before .before .before .before .before .before .before .before .before .before .before .before .before .pre .1 .1 .1) (c .before .before .before .before .before .before .before .before .before .before .before .before .r .given .1) (c .before .before .before .before .before .before .before .before .before .rename-core .ensures) (c .before .before .before .before .before .q .given .1) (long (c .before .before .before .before .before .before .before .before .before .before .before .before .before .before .before .before .before .before .before .before .before .before .args .base .now) (c .before .before .before .before .before .before .before .before .before .rename-core .last .1 .0) (c .before .before .before .before .before .before .before .before .before .before .before .before .before .before .before .before .before .before .before .before .before .before .args .work .now) (c .before .before .before .before .before .before .before .before .before .rename-core .kept .1 .0 ∙ c .before .before .before .before .before .before .before .before .before .before .before .before .before .before .before .before .rename-binders .kept .1 .0)) (both-fit (c .before .before .before .before .before .before .before .before .before .before .before .before .before .before .before .before .before .before .before .before .before .before .args .base .now) (c .before .before .before .before .before .before .before .before .before .before .before .before .before .before .before .before .before .before .before .before .before .before .args .work .now) (c .before .before .before .before .before .before .before .before .before .before .before .before .before .before .before .before .before .before .before .before .before .before .good .0 .0) (c .before .before .before .before .before .before .before .before .before .before .before .before .before .before .before .before .before .before .before .before .before .before .good .1 .0 .0)) in let s = q .small in omega arith
+in-dict-abs-add-t33 t c = let q = under-room _ _ (c .before .before .before .before .before .before .before .before .before .before .before .before .before .before .before .before .before .before .before .before .before .before .pre .1 .1 .0 .room) (c .before .before .before .before .before .before .before .before .before .before .before .before .before .before .before .before .rename-binders .ensures) (c .before .before .before .before .before .before .before .before .before .before .before .before .before .before .before .before .before .before .before .before .before .before .pre .1 .1 .1) (c .before .before .before .before .before .before .before .before .before .before .before .before .r .given .1) (c .before .before .before .before .before .before .before .before .before .rename-core .ensures) (c .before .before .before .before .before .q .given .1) (long (c .before .before .before .before .before .before .before .before .before .before .before .before .before .before .before .before .before .before .before .before .before .before .args .base .now) (c .before .before .before .before .before .before .before .before .before .rename-core .last .1 .0) (c .before .before .before .before .before .before .before .before .before .before .before .before .before .before .before .before .before .before .before .before .before .before .args .work .now) (c .before .before .before .before .before .before .before .before .before .rename-core .kept .1 .0 ∙ c .before .before .before .before .before .before .before .before .before .before .before .before .before .before .before .before .rename-binders .kept .1 .0)) (both-fit (c .before .before .before .before .before .before .before .before .before .before .before .before .before .before .before .before .before .before .before .before .before .before .args .base .now) (c .before .before .before .before .before .before .before .before .before .before .before .before .before .before .before .before .before .before .before .before .before .before .args .work .now) (c .before .before .before .before .before .before .before .before .before .before .before .before .before .before .before .before .before .before .before .before .before .before .good .0 .0) (c .before .before .before .before .before .before .before .before .before .before .before .before .before .before .before .before .before .before .before .before .before .before .good .1 .0 .0)) in let s = q .small in omega arith
 
 -- src/lib.rt:183:53
 in-dict-abs-add-t34 : (t : ℕ) → in-dict-abs-lts.Need-add-t34 (rename-binders-reads.Asked, rename-binders-reads.Learnt, rename-core-below t, rename-core.Post, push-dict-abs-reads.Asked, push-dict-abs-reads.Learnt) (in-dict-abs-at t) in-dict-abs.Post
-in-dict-abs-add-t34 t c = let q = under-room _ (c .before .before .before .before .before .before .before .before .before .before .before .before .before .before .before .before .before .before .before .before .before .before .pre .1 .1 .0) (c .before .before .before .before .before .before .before .before .before .before .before .before .before .before .before .before .rename-binders .ensures) (c .before .before .before .before .before .before .before .before .before .before .before .before .before .before .before .before .before .before .before .before .before .before .pre .1 .1 .1) (c .before .before .before .before .before .before .before .before .before .before .before .before .r .given .1) (c .before .before .before .before .before .before .before .before .before .rename-core .ensures) (c .before .before .before .before .before .q .given .1) (long (c .before .before .before .before .before .before .before .before .before .before .before .before .before .before .before .before .before .before .before .before .before .before .args .base .now) (c .before .before .before .before .before .before .before .before .before .rename-core .last .1 .0) (c .before .before .before .before .before .before .before .before .before .before .before .before .before .before .before .before .before .before .before .before .before .before .args .work .now) (c .before .before .before .before .before .before .before .before .before .rename-core .kept .1 .0 ∙ c .before .before .before .before .before .before .before .before .before .before .before .before .before .before .before .before .rename-binders .kept .1 .0)) (both-fit (c .before .before .before .before .before .before .before .before .before .before .before .before .before .before .before .before .before .before .before .before .before .before .args .base .now) (c .before .before .before .before .before .before .before .before .before .before .before .before .before .before .before .before .before .before .before .before .before .before .args .work .now) (c .before .before .before .before .before .before .before .before .before .before .before .before .before .before .before .before .before .before .before .before .before .before .good .0 .0) (c .before .before .before .before .before .before .before .before .before .before .before .before .before .before .before .before .before .before .before .before .before .before .good .1 .0 .0)) in let s = q .small in omega arith
+in-dict-abs-add-t34 t c = let q = under-room _ _ (c .before .before .before .before .before .before .before .before .before .before .before .before .before .before .before .before .before .before .before .before .before .before .pre .1 .1 .0 .room) (c .before .before .before .before .before .before .before .before .before .before .before .before .before .before .before .before .rename-binders .ensures) (c .before .before .before .before .before .before .before .before .before .before .before .before .before .before .before .before .before .before .before .before .before .before .pre .1 .1 .1) (c .before .before .before .before .before .before .before .before .before .before .before .before .r .given .1) (c .before .before .before .before .before .before .before .before .before .rename-core .ensures) (c .before .before .before .before .before .q .given .1) (long (c .before .before .before .before .before .before .before .before .before .before .before .before .before .before .before .before .before .before .before .before .before .before .args .base .now) (c .before .before .before .before .before .before .before .before .before .rename-core .last .1 .0) (c .before .before .before .before .before .before .before .before .before .before .before .before .before .before .before .before .before .before .before .before .before .before .args .work .now) (c .before .before .before .before .before .before .before .before .before .rename-core .kept .1 .0 ∙ c .before .before .before .before .before .before .before .before .before .before .before .before .before .before .before .before .rename-binders .kept .1 .0)) (both-fit (c .before .before .before .before .before .before .before .before .before .before .before .before .before .before .before .before .before .before .before .before .before .before .args .base .now) (c .before .before .before .before .before .before .before .before .before .before .before .before .before .before .before .before .before .before .before .before .before .before .args .work .now) (c .before .before .before .before .before .before .before .before .before .before .before .before .before .before .before .before .before .before .before .before .before .before .good .0 .0) (c .before .before .before .before .before .before .before .before .before .before .before .before .before .before .before .before .before .before .before .before .before .before .good .1 .0 .0)) in let s = q .small in omega arith
 
 -- src/lib.rt:185:34
 in-dict-abs-enum-known-q-2 : (t : ℕ) → in-dict-abs-lts.Need-enum-known-q-2 (rename-binders-reads.Asked, rename-binders-reads.Learnt, rename-core-below t, rename-core.Post, push-dict-abs-reads.Asked, push-dict-abs-reads.Learnt) (in-dict-abs-at t) in-dict-abs.Post
@@ -295,7 +295,7 @@ in-dict-abs-same-length t c = search needs
 
 -- src/lib.rt:159:1
 in-dict-abs-returns : (t : ℕ) → in-dict-abs-lts.Need-returns (rename-binders-reads.Asked, rename-binders-reads.Learnt, rename-core-below t, rename-core.Post, push-dict-abs-reads.Asked, push-dict-abs-reads.Learnt) (in-dict-abs-at t) in-dict-abs.Post
-in-dict-abs-returns t c = under-done _ (c .before .before .before .before .before .before .before .before .before .before .before .before .before .before .before .before .before .before .before .before .before .before .pre .1 .1 .0) (c .before .before .before .before .before .before .before .before .before .before .before .before .before .before .before .before .rename-binders .ensures) (c .before .before .before .before .before .before .before .before .before .before .before .before .before .before .before .before .before .before .before .before .before .before .pre .1 .1 .1) (c .before .before .before .before .before .before .before .before .before .before .before .before .r .given .1) (c .before .before .before .before .before .before .before .before .before .rename-core .ensures) (c .before .before .before .before .before .q .given .1) (long (c .before .before .before .before .before .before .before .before .before .before .before .before .before .before .before .before .before .before .before .before .before .before .args .base .now) (c .before .before .before .before .before .before .before .before .before .rename-core .last .1 .0) (c .before .before .before .before .before .before .before .before .before .before .before .before .before .before .before .before .before .before .before .before .before .before .args .work .now) (c .before .before .before .before .before .before .before .before .before .rename-core .kept .1 .0 ∙ c .before .before .before .before .before .before .before .before .before .before .before .before .before .before .before .before .rename-binders .kept .1 .0)) (both-fit (c .before .before .before .before .before .before .before .before .before .before .before .before .before .before .before .before .before .before .before .before .before .before .args .base .now) (c .before .before .before .before .before .before .before .before .before .before .before .before .before .before .before .before .before .before .before .before .before .before .args .work .now) (c .before .before .before .before .before .before .before .before .before .before .before .before .before .before .before .before .before .before .before .before .before .before .good .0 .0) (c .before .before .before .before .before .before .before .before .before .before .before .before .before .before .before .before .before .before .before .before .before .before .good .1 .0 .0)) (c .before .before .push-dict-abs .ensures)
+in-dict-abs-returns t c = under-done _ _ (c .before .before .before .before .before .before .before .before .before .before .before .before .before .before .before .before .before .before .before .before .before .before .pre .1 .1 .0 .room) (c .before .before .before .before .before .before .before .before .before .before .before .before .before .before .before .before .rename-binders .ensures) (c .before .before .before .before .before .before .before .before .before .before .before .before .before .before .before .before .before .before .before .before .before .before .pre .1 .1 .1) (c .before .before .before .before .before .before .before .before .before .before .before .before .r .given .1) (c .before .before .before .before .before .before .before .before .before .rename-core .ensures) (c .before .before .before .before .before .q .given .1) (long (c .before .before .before .before .before .before .before .before .before .before .before .before .before .before .before .before .before .before .before .before .before .before .args .base .now) (c .before .before .before .before .before .before .before .before .before .rename-core .last .1 .0) (c .before .before .before .before .before .before .before .before .before .before .before .before .before .before .before .before .before .before .before .before .before .before .args .work .now) (c .before .before .before .before .before .before .before .before .before .rename-core .kept .1 .0 ∙ c .before .before .before .before .before .before .before .before .before .before .before .before .before .before .before .before .rename-binders .kept .1 .0)) (both-fit (c .before .before .before .before .before .before .before .before .before .before .before .before .before .before .before .before .before .before .before .before .before .before .args .base .now) (c .before .before .before .before .before .before .before .before .before .before .before .before .before .before .before .before .before .before .before .before .before .before .args .work .now) (c .before .before .before .before .before .before .before .before .before .before .before .before .before .before .before .before .before .before .before .before .before .before .good .0 .0) (c .before .before .before .before .before .before .before .before .before .before .before .before .before .before .before .before .before .before .before .before .before .before .good .1 .0 .0)) (c .before .before .push-dict-abs .ensures)
 
 -- src/lib.rt:159:1
 in-dict-abs-same-length-2 : (t : ℕ) → in-dict-abs-lts.Need-same-length-2 (rename-binders-reads.Asked, rename-binders-reads.Learnt, rename-core-below t, rename-core.Post, push-dict-abs-reads.Asked, push-dict-abs-reads.Learnt) (in-dict-abs-at t) in-dict-abs.Post
@@ -303,7 +303,7 @@ in-dict-abs-same-length-2 t c = search needs
 
 -- src/lib.rt:159:1
 in-dict-abs-returns-2 : (t : ℕ) → in-dict-abs-lts.Need-returns-2 (rename-binders-reads.Asked, rename-binders-reads.Learnt, rename-core-below t, rename-core.Post, push-dict-abs-reads.Asked, push-dict-abs-reads.Learnt) (in-dict-abs-at t) in-dict-abs.Post
-in-dict-abs-returns-2 t c = under-refused-2 _ (c .before .before .before .before .before .before .before .before .before .before .before .before .before .before .before .before .before .before .pre .1 .1 .0) (c .before .before .before .before .before .before .before .before .before .before .before .before .rename-binders .ensures) (c .before .before .before .before .before .before .before .before .before .before .before .before .before .before .before .before .before .before .pre .1 .1 .1) (c .before .before .before .before .before .before .before .before .r .given .1) (c .before .before .before .before .before .rename-core .ensures) (c .before .q2 .given .1)
+in-dict-abs-returns-2 t c = under-refused-2 _ _ (c .before .before .before .before .before .before .before .before .before .before .before .before .before .before .before .before .before .before .pre .1 .1 .0 .room) (c .before .before .before .before .before .before .before .before .before .before .before .before .rename-binders .ensures) (c .before .before .before .before .before .before .before .before .before .before .before .before .before .before .before .before .before .before .pre .1 .1 .1) (c .before .before .before .before .before .before .before .before .r .given .1) (c .before .before .before .before .before .rename-core .ensures) (c .before .q2 .given .1)
 
 -- src/lib.rt:159:1
 in-dict-abs-same-length-3 : (t : ℕ) → in-dict-abs-lts.Need-same-length-3 (rename-binders-reads.Asked, rename-binders-reads.Learnt, rename-core-below t, rename-core.Post, push-dict-abs-reads.Asked, push-dict-abs-reads.Learnt) (in-dict-abs-at t) in-dict-abs.Post
@@ -311,7 +311,7 @@ in-dict-abs-same-length-3 t c = search needs
 
 -- src/lib.rt:159:1
 in-dict-abs-returns-3 : (t : ℕ) → in-dict-abs-lts.Need-returns-3 (rename-binders-reads.Asked, rename-binders-reads.Learnt, rename-core-below t, rename-core.Post, push-dict-abs-reads.Asked, push-dict-abs-reads.Learnt) (in-dict-abs-at t) in-dict-abs.Post
-in-dict-abs-returns-3 t c = under-refused _ (c .before .before .before .before .before .before .before .before .before .before .before .pre .1 .1 .0) (c .before .before .before .before .before .rename-binders .ensures) (c .before .before .before .before .before .before .before .before .before .before .before .pre .1 .1 .1) (c .before .r2 .given .1)
+in-dict-abs-returns-3 t c = under-refused _ _ (c .before .before .before .before .before .before .before .before .before .before .before .pre .1 .1 .0 .room) (c .before .before .before .before .before .rename-binders .ensures) (c .before .before .before .before .before .before .before .before .before .before .before .pre .1 .1 .1) (c .before .r2 .given .1)
 
 -- src/lib.rt:210:9
 in-dict-app-rename-core-requires : (t : ℕ) → in-dict-app-lts.Need-rename-core-requires (rename-core-below t, rename-core.Post, lists·in-each-below t, lists·in-each.Post, push-app-reads.Asked, push-app-reads.Learnt) (in-dict-app-at t) in-dict-app.Post
