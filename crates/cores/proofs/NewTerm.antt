@@ -1,24 +1,24 @@
 -- Laws of a new node that is a core term: what is pushed is read back, and all below it stands.
-use Prim.Native.Nat.{ℕ, _+_, _*_, _<_, _≤_}
+use Prim.Native.Nat.{ℕ, _+_, _*_, _-_, _/_, _%_, _<_, _≤_}
 use native.Mathlib.Omega.{arith}
 use mathlib.Core.Path.{_≡_, refl, ap, sym, _∙_}
-use mathlib.Core.List.{List}
+use mathlib.Core.List.{List, _∷_}
 use lib.ListN.{length, getD, set}
 use lib.Seq.{getD-set-same, getD-set-other}
 use borrow.Author.Tests.{lt-ltb}
-use Rattle.meaning.specs.Ast.{method, super, cint, cabs, capp, clet, dict-abs, dict-app, dict-proj, dict-rec, _◃_}
+use Rattle.meaning.specs.Ast.{dvar, pred, method, super, cint, cabs, capp, clet, dict-abs, dict-app, dict-proj, dict-rec, _◃_}
 use Rattle.names.specs.Names.{first-node, nameOf}
-use Rattle.ast.specs.Table.{shape, cell, tree, ShapeBelow, CellBelow, Table, Node, pushed}
+use Rattle.ast.specs.Table.{shape, cell, cellOf, tree, ShapeBelow, CellBelow, Table, Node, pushed}
 use Rattle.ast.proofs.Laws.{kept-tree, kept-table}
 use Rattle.ast.proofs.NewNode.{Pushed, pushed-0, pushed-1, pushed-2, pushed-kept, pushed-node, pushed-cell, length-pushed}
 use Rattle.pairs.specs.Pairs.{Stands}
 use Rattle.pairs.proofs.Frames.{stands-then, pushed-stands, put-length, put-stands}
 use Rattle.cores.specs.declared.Part.the-variants.{Int, Abs, App, Let, DictAbs, DictApp, Method, Super, Rec}
 use Rattle.cores.specs.Parts.{nodePart, readPart, checked, partOf, pushedFour}
-use Rattle.cores.specs.Binders.{bindersOf}
+use Rattle.cores.specs.Binders.{fourthAt, bindersOf}
 use Rattle.cores.specs.Terms.{core, cores}
 use Rattle.cores.proofs.Parted.{part-at}
-use Rattle.cores.proofs.BinderLaws.{kept-binders}
+use Rattle.cores.proofs.BinderLaws.{kept-binders, binders-cons}
 use Rattle.cores.proofs.TermLaws.{kept-core, kept-cores, core-of, cores-cons}
 
 module _ {w′ : List ℕ} (w : List ℕ) (top tag a b d : ℕ) (e : w′ ≡ pushedFour w top tag a b d) where
@@ -205,3 +205,18 @@ module _ {w w′ : List ℕ} {top : ℕ} (ns : List ℕ) (room : 4 * top + 4 ≤
           node = N;
           is = cores-cons ns N (sym (pushed-cell w top 3 f l room)) refl ∙ rw (kept-core ns K F, kept-cores ns K L);
         })
+
+    -- A first binder, of the fourth word x, and the rest of a list.
+    pub push-binder : (x : ℕ) → w′ ≡ pushedFour w top 3 f l x → Pushed (bindersOf ns w′) w w′ top ((dvar (x / 65536), pred (nameOf ns (x % 65536)) (tree ns w f)) ∷ bindersOf ns w l)
+    unfolding pushedFour fourthAt
+    push-binder x e =
+        let K = four-stands w top 3 f l x e (4 * top + 4) (omega arith) .low in
+        let N = four-node w top 3 f l x e room (F .table) small tt (F .below, L .below) in
+        let z : first-node + top - first-node ≡ top = omega arith in
+        let c = ap (λ v. cellOf v (first-node + top)) e ∙ pushed-cell (set w (4 * top + 3) x) top 3 f l (room-put w top 3 f l x e room) in
+        record {
+          long = four-length w top 3 f l x e;
+          kept = K;
+          node = N;
+          is = binders-cons ns N (sym c) refl ∙ rw (z, four-3 w top 3 f l x e room, kept-tree ns K F, kept-binders ns K L);
+        }

@@ -104,18 +104,18 @@ module _ {E A : Type 0} {Of : E → Type 0} {nm : E → List ℕ} {read : List �
 
 module _ {E A B : Type 0} {Of : E → Type 0} {nm : E → List ℕ} {read : List ℕ → List ℕ → ℕ → A} {read₂ : List ℕ → List ℕ → ℕ → B} {w w₁ w₂ : List ℕ} {top left : ℕ}
     {o₁ : E → Out A} {o₂ : E → Out B} {r₁ r₂ : Applied}
-    (G : GivesFor Of nm read 4 (4 * top + 8 * left) w w₁ top left o₁ r₁) {m t₁ l₁ : ℕ} (h : r₁ ≡ Done m t₁ l₁)
+    {s₁ : ℕ} (G : GivesFor Of nm read s₁ (4 * top + 8 * left) w w₁ top left o₁ r₁) {m t₁ l₁ : ℕ} (h : r₁ ≡ Done m t₁ l₁)
     {s₂ : ℕ} (H : GivesFor Of nm read₂ s₂ (4 * t₁ + 8 * l₁) w₁ w₂ t₁ l₁ o₂ r₂) where
   -- The second part is refused.
   pub two-refused : {C : Type 0} {read′ : List ℕ → List ℕ → ℕ → C} {o : E → Out C} {k : E → A → Steps C} {k₂ : E → B → Steps C} {q : Refusal} {t₂ l₂ : ℕ} → Thens Of o o₁ k → Thens Of (λ x. k x (read (nm x) w₁ m) l₁) o₂ k₂
       → r₂ ≡ Refused q t₂ l₂ → GivesFor Of nm read′ 0 (4 * top + 8 * left) w w₂ top left o (Refused q t₂ l₂)
   two-refused T U i = let g = made G h in let s = g .spent in goes G T h (fails (onward {s′ = 0} H (same-out Of o₂) (omega arith) (omega arith) (omega arith)) U i)
 
-  module _ {m₂ t₂ l₂ : ℕ} (i : r₂ ≡ Done m₂ t₂ l₂) where
+  module _ {m₂ t₂ l₂ : ℕ} (i : r₂ ≡ Done m₂ t₂ l₂) (four : 4 ≤ s₁ + s₂) where
     -- There is room for the new node.
     pub two-room : 4 * top + 8 * left ≤ length w → length w₂ ≡ length w → length w < 2 ^ 65 → Room w₂ top t₂
     two-room o len big =
-        let g = made G h in let s = g .spent in let n = g .more in let g₂ = made H i in let s₂ = g₂ .spent in let n₂ = g₂ .more in
+        let g = made G h in let s = g .spent in let n = g .more in let g₂ = made H i in let z = g₂ .spent in let n₂ = g₂ .more in
         record { more = omega arith; room = omega arith; small = omega arith }
 
     -- The node is the answer.
@@ -123,5 +123,5 @@ module _ {E A B : Type 0} {Of : E → Type 0} {nm : E → List ℕ} {read : List
         → ((ns : List ℕ) → Pushed (read′ ns w₃) w₂ w₃ t₂ (u ns)) → Stands w₂ w₃ t₂ (4 * t₂ + 4) → ((x : E) → Of x → k₂ x (read₂ (nm x) w₂ m₂) l₂ ≡ done (u (nm x)) l₂)
         → GivesFor Of nm read′ 0 (4 * top + 8 * left) w w₃ top left o (Done (first-node + t₂) (t₂ + 1) l₂)
     two-done u T U P F e =
-        let g = made G h in let s = g .spent in let g₂ = made H i in let s₂ = g₂ .spent in
+        let g = made G h in let s = g .spent in let g₂ = made H i in let z = g₂ .spent in
         goes G T h (goes (onward {s′ = 0} H (same-out Of o₂) (omega arith) (omega arith) (omega arith)) U i (adds u P (stands-up F (omega arith)) e (omega arith)))

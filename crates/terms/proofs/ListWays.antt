@@ -73,11 +73,11 @@ module _ {w bs : List ℕ} {top left n v : ℕ} (depth : ℕ) (R : ReadyTerm w b
           module _ {m₂ t₂ l₂ : ℕ} (i : r₂ ≡ Done m₂ t₂ l₂) (len : length w₂ ≡ length w) (big : length w < 2 ^ 65) where
             -- There is room for the cell.
             pub list-room : Room w₂ top t₂
-            list-room = two-room G h H i (R .room) len big
+            list-room = two-room G h H i (omega arith) (R .room) len big
 
             -- The cell is the answer.
             pub list-done : {w₃ : List ℕ} → w₃ ≡ pushed w₂ t₂ 3 m m₂
                 → GivesTerm cores 0 w w₃ top left (λ ns. each-core (plain-in depth (replacedIn ns w bs n)) (cores ns w v) left) (Done (first-node + t₂) (t₂ + 1) l₂)
-            list-done p = two-done G h H i (λ ns. core ns w₂ m ◃ cores ns w₂ m₂) list-then list-next
+            list-done p = two-done G h H i (omega arith) (λ ns. core ns w₂ m ◃ cores ns w₂ m₂) list-then list-next
                 (λ ns. push-cores ns (list-room .room) (list-room .small) (node-more (made H i .node .table) (made H i .more) (made G h .node)) (made H i .node) p)
                 (pushed-stands t₂ 3 m m₂ _ (omega arith) p) (λ ns u. rw (kept-core ns (H .stands .low) (made G h .node)))

@@ -179,7 +179,7 @@ module _ {w w₁ bs : List ℕ} {top left n e : ℕ} (depth : ℕ) (R : ReadyTer
       module _ {m₂ t₂ l₂ : ℕ} (i : r₂ ≡ Done m₂ t₂ l₂) (len : length w₂ ≡ length w) (big : length w < 2 ^ 65) where
         -- There is room for a node of both parts.
         pub call-room : Room w₂ top t₂
-        call-room = two-room G h H i (R .room) len big
+        call-room = two-room G h H i (omega arith) (R .room) len big
 
         -- The first part is a word of the last table.
         first : Node w₂ t₂ m
@@ -188,14 +188,14 @@ module _ {w w₁ bs : List ℕ} {top left n e : ℕ} (depth : ℕ) (R : ReadyTer
         module _ {w₃ : List ℕ} where
           -- A term applied to a term is the answer.
           pub call-done : w₃ ≡ pushedFour w₂ t₂ 5 m m₂ 0 → GivesTerm core 0 w w₃ top left (λ ns. nodeOut ns w bs n depth left (capp (core ns w e) (core ns w a))) (Done (first-node + t₂) (t₂ + 1) l₂)
-          call-done p = two-done G h H i (λ ns. capp (core ns w₂ m) (core ns w₂ m₂)) (call-then a) call-next
+          call-done p = two-done G h H i (omega arith) (λ ns. capp (core ns w₂ m) (core ns w₂ m₂)) (call-then a) call-next
               (λ ns. push-called ns (call-room .room) (call-room .small) first (made H i .node) p) (four-stands w₂ t₂ 5 m m₂ 0 p _ (omega arith))
               (λ ns u. rw (kept-core ns (H .stands .low) (made G h .node)))
 
           -- A term in which a name stands for another is.
           pub let-done : (x : ℕ) → w₃ ≡ pushedFour w₂ t₂ 6 x m m₂
               → GivesTerm core 0 w w₃ top left (λ ns. nodeOut ns w bs n depth left (clet (nameOf ns x) (core ns w e) (core ns w a))) (Done (first-node + t₂) (t₂ + 1) l₂)
-          let-done x p = two-done G h H i (λ ns. clet (nameOf ns x) (core ns w₂ m) (core ns w₂ m₂)) (let-then x a) (let-next x)
+          let-done x p = two-done G h H i (omega arith) (λ ns. clet (nameOf ns x) (core ns w₂ m) (core ns w₂ m₂)) (let-then x a) (let-next x)
               (λ ns. push-bound ns (call-room .room) (call-room .small) first (made H i .node) x p) (four-stands w₂ t₂ 6 x m m₂ p _ (omega arith))
               (λ ns u. rw (kept-core ns (H .stands .low) (made G h .node)))
 
@@ -216,11 +216,11 @@ module _ {w w₁ bs : List ℕ} {top left n e : ℕ} (depth : ℕ) (R : ReadyTer
       module _ {m₂ t₂ l₂ : ℕ} (i : r₂ ≡ Done m₂ t₂ l₂) (len : length w₂ ≡ length w) (big : length w < 2 ^ 65) where
         -- There is room for a node of both parts.
         pub applied-room : Room w₂ top t₂
-        applied-room = two-room G h H i (R .room) len big
+        applied-room = two-room G h H i (omega arith) (R .room) len big
 
         -- A term applied to dictionaries is the answer.
         pub applied-done : {w₃ : List ℕ} → w₃ ≡ pushedFour w₂ t₂ 8 m m₂ 0
             → GivesTerm core 0 w w₃ top left (λ ns. nodeOut ns w bs n depth left (dict-app (core ns w e) (cores ns w v))) (Done (first-node + t₂) (t₂ + 1) l₂)
-        applied-done p = two-done G h H i (λ ns. dict-app (core ns w₂ m) (cores ns w₂ m₂)) (applied-then v) applied-next
+        applied-done p = two-done G h H i (omega arith) (λ ns. dict-app (core ns w₂ m) (cores ns w₂ m₂)) (applied-then v) applied-next
             (λ ns. push-applied ns (applied-room .room) (applied-room .small) (node-more (made H i .node .table) (made H i .more) (made G h .node)) (made H i .node) p) (four-stands w₂ t₂ 8 m m₂ 0 p _ (omega arith))
             (λ ns u. rw (kept-core ns (H .stands .low) (made G h .node)))
