@@ -11,3 +11,4 @@ pub mod Fills
 pub mod Means
 pub mod Replaces
 pub mod Callers
+pub mod Removed
