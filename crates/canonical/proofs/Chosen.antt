@@ -151,17 +151,17 @@ later-name x v k vs h = get-insert-other tyvars x (v, if (ltb k 26) (letter k) v
 
 -- ## places
 -- One place further on from a letter before.
-place-later : (k x : ℕ) (p : Option ℕ) → orWord (9 + suc k) x p ≡ orWord (9 + k) x (later p)
+pub place-later : (k x : ℕ) (p : Option ℕ) → orWord (9 + suc k) x p ≡ orWord (9 + k) x (later p)
 place-later k x none = refl
 place-later k x (some i) = omega arith
 
 -- The first word.
-place-first : (k x : ℕ) (ls : List ℕ) → orWord (9 + k) x (posAt (x ∷ ls) x) ≡ 9 + k
+pub place-first : (k x : ℕ) (ls : List ℕ) → orWord (9 + k) x (posAt (x ∷ ls) x) ≡ 9 + k
 unfolding posAt
 place-first k x ls = rw (eq-yes x x refl) (omega arith)
 
 -- Another one.
-place-other : (y x : ℕ) (ls : List ℕ) → (y ≡ x → ⊥) → posAt (y ∷ ls) x ≡ later (posAt ls x)
+pub place-other : (y x : ℕ) (ls : List ℕ) → (y ≡ x → ⊥) → posAt (y ∷ ls) x ≡ later (posAt ls x)
 unfolding posAt
 place-other y x ls h = rw (eq-no y x h) refl
 

@@ -10,3 +10,4 @@ pub mod Listing
 pub mod NewNames
 pub mod Images
 pub mod Fewer
+pub mod SameLeaves
