@@ -63,6 +63,7 @@ unfoldable mutual
   Apart (dict-proj e m) sub = Apart e sub
   Apart (dict-rec c a i) sub = Unit {0}
 
+  -- The same of each term of a list.
   pub AllApart : Cores → Map DictName Core → Type 0
   AllApart cnil sub = Unit {0}
   AllApart (e ◃ es) sub = Apart e sub × AllApart es sub
