@@ -68,6 +68,7 @@ each-of P v vs p h x e = go (same-tyvar x v)
     go (yes i) = subst P (sym i) p
     go (no i) = h x (sym (elem-rest x v vs i) ∙ e)
 
+-- What holds of a variable and of the others of a list holds of all once it is put in.
 put-each : (P : TyVar → Type 0) (v : TyVar) (vs : List TyVar) → P v → ((x : TyVar) → elem tyvars x vs ≡ true → P x)
     → (x : TyVar) → elem tyvars x (put tyvar-before v vs) ≡ true → P x
 unfolding put
@@ -79,6 +80,7 @@ put-each P v (w ∷ vs) p h = go (tyvar-before w v) (put-each P v vs p (λ x e. 
     go true ih = each-of P w (put tyvar-before v vs) (h w (elem-head w vs)) ih
     go false ih = each-of P v (w ∷ vs) p h
 
+-- Putting a new variable in keeps the byte order.
 put-bytes : (v : TyVar) (vs : List TyVar) → elem tyvars v vs ≡ false → InBytes vs → InBytes (put tyvar-before v vs)
 unfolding put elem
 put-bytes v [] a r = ((λ x e. absurd (false≢true e)), tt)

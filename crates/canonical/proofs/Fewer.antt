@@ -13,6 +13,7 @@ use Rattle.rename.specs.Renaming.{leaves, leaves-list}
 use Rattle.canonical.specs.Named.{bound}
 use Rattle.canonical.specs.Rows.{leaves-preds}
 
+-- One variable more at most.
 add-few : (x : TyVar) (out : List TyVar) → count (add x out) ≤ 1 + count out
 unfolding add count
 add-few x out = go (elem tyvars x out)
@@ -24,15 +25,18 @@ add-few x out = go (elem tyvars x out)
 mutual
   unfolding ftv-type leaves
 
+  -- Those of a type, before those already found.
   type-few : (t : Ty) (out : List TyVar) → count (ftv-type t out) ≤ leaves t + count out
   type-few (var x) out = add-few x out
   type-few (con c ts) out = types-few ts out
   type-few (arrow a b) out = let h = type-few b (ftv-type a out) in let k = type-few a out in omega arith
 
+  -- The same of a list of types.
   types-few : (ts : Tys) (out : List TyVar) → count (ftv-types ts out) ≤ leaves-list ts + count out
   types-few nil out = omega arith
   types-few (a ◂ ts) out = let h = types-few ts (ftv-type a out) in let k = type-few a out in omega arith
 
+-- The same of predicates.
 preds-few : (ps : List Pred) (out : List TyVar) → count (ftv-preds ps out) ≤ leaves-preds ps + count out
 unfolding ftv-preds total
 preds-few [] out = omega arith
@@ -43,6 +47,7 @@ pub qual-few : (q : Qual) → count (ftv-qual q) ≤ leaves-preds (q .preds) + l
 unfolding ftv-qual count
 qual-few q = let h = preds-few (q .preds) (ftv-type (q .ty) []) in let k = type-few (q .ty) [] in omega arith
 
+-- Those that pass a test are no more.
 keep-few : (f : TyVar → Bool) (vs : List TyVar) → count (keep f vs) ≤ count vs
 unfolding keep count
 keep-few f [] = omega arith
@@ -57,6 +62,7 @@ pub bound-few : (q : Qual) (env : Env) → count (bound q env) ≤ leaves-preds 
 unfolding without
 bound-few q env = let h = keep-few (λ v. not (elem tyvars v (env-ftv env))) (ftv-qual q) in let k = qual-few q in omega arith
 
+-- All pass the test whether they are missing in an empty list.
 keep-all : (vs : List TyVar) → keep (λ v. not (elem tyvars v [])) vs ≡ vs
 unfolding keep elem
 keep-all [] = refl

@@ -70,6 +70,7 @@ unfolding total
 row-leaves ns w (Pending d c t) os = omega arith
 row-leaves ns w (Replaced d x) os = omega arith
 
+-- The same of their number.
 row-count : (ns w : List ℕ) (r : Row) (os : List Binder) → count (withRow ns w r os) ≡ count (withRow ns w r []) + count os
 unfolding count
 row-count ns w (Pending d c t) os = omega arith
@@ -114,9 +115,11 @@ module _ {ns w₀ w w′ ls bs₀ bs bs′ : List ℕ} {top left n i m k : ℕ} 
         same-rows ns w′ bs bs′ j l (λ a p z. T .others a (λ y. ⊎-elim (λ g. omega arith) (λ g. omega arith) o))
         ∙ kept-rows ns bs (T .stands .low) j l (λ a p z. G .ready .binders .types a (omega arith))
 
+    -- Those after it are,
     rest-same : bindersIn ns w′ bs′ (suc i) n ≡ bindersIn ns w bs (suc i) n
     rest-same = alike (suc i) (n - suc i) (inl (omega arith)) (omega arith)
 
+    -- and those before it.
     front-same : bindersIn ns w′ bs′ 0 i ≡ bindersIn ns w bs 0 i
     front-same = alike 0 (i - 0) (inr (omega arith)) (omega arith)
 

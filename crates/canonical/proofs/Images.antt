@@ -34,6 +34,7 @@ record From (r : Map TyVar TyVar) (y : TyVar) : Type 0 where
   old : TyVar
   found : get tyvars old r ≡ some y
 
+-- Each new name comes from one.
 image-from : (r : Map TyVar TyVar) (y : TyVar) → Sorted tyvars r → elem tyvars y (images r) ≡ true → From r y
 unfolding elem
 image-from [] y s e = absurd (false≢true e)
@@ -85,11 +86,13 @@ mutual
   sub-in θ x y (arrow a b) e f = or-cases (occurs x a) (occurs x b) e _
       (λ i. or-left (occurs y (sub θ a)) (occurs y (sub θ b)) (sub-in θ x y a i f)) (λ i. or-right (occurs y (sub θ a)) (occurs y (sub θ b)) (sub-in θ x y b i f))
 
+  -- The same of a list of types.
   subs-in : (θ : Fill) (x y : TyVar) (ts : Tys) → occurs-in x ts ≡ true → occurs y (θ x) ≡ true → occurs-in y (subs θ ts) ≡ true
   subs-in θ x y nil e f = absurd (false≢true e)
   subs-in θ x y (t ◂ ts) e f = or-cases (occurs x t) (occurs-in x ts) e _
       (λ i. or-left (occurs y (sub θ t)) (occurs-in y (subs θ ts)) (sub-in θ x y t i f)) (λ i. or-right (occurs y (sub θ t)) (occurs-in y (subs θ ts)) (subs-in θ x y ts i f))
 
+-- The same of predicates.
 preds-in : (θ : Fill) (x y : TyVar) (ps : List Pred) → occurs-preds x ps ≡ true → occurs y (θ x) ≡ true → occurs-preds y (sub-preds θ ps) ≡ true
 preds-in θ x y [] e f = absurd (false≢true e)
 preds-in θ x y (p ∷ ps) e f = or-cases (occurs x (p .ty)) (occurs-preds x ps) e _
@@ -99,6 +102,7 @@ preds-in θ x y (p ∷ ps) e f = or-cases (occurs x (p .ty)) (occurs-preds x ps)
 abbrev pub filled : Fill → Qual → Qual
 filled θ q = qual (sub-preds θ (q .preds)) (sub θ (q .ty))
 
+-- The same of a qualified type.
 qual-in : (θ : Fill) (x y : TyVar) (q : Qual) → occurs-qual x q ≡ true → occurs y (θ x) ≡ true → occurs-qual y (filled θ q) ≡ true
 qual-in θ x y q e f = or-cases (occurs-preds x (q .preds)) (occurs x (q .ty)) e _
     (λ i. or-left (occurs-preds y (sub-preds θ (q .preds))) (occurs y (sub θ (q .ty))) (preds-in θ x y (q .preds) i f))
@@ -136,12 +140,15 @@ module _ (q : Qual) (env : Env) (made : MadeQual q) (free : MadeVars (env-ftv en
   bound-made : MadeVars (bound q env)
   bound-made = without-made (ftv-qual q) (env-ftv env) (ftv-made q made)
 
+  -- Bound variables stand there once;
   bound-once : Once (bound q env)
   bound-once = once-without (ftv-qual q) (env-ftv env) (once-ftv-qual q)
 
+  -- so do they in their internal order,
   order-made : MadeVars (sort-by internal-before (bound q env))
   order-made x e = bound-made x (sym (elem-sort-by internal-before x (bound q env)) ∙ e)
 
+  -- in which none stands twice either.
   order-once : Once (sort-by internal-before (bound q env))
   order-once = rising-once (sort-by internal-before (bound q env)) order-made (sort-rising (bound q env) bound-made bound-once)
 

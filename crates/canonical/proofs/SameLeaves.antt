@@ -73,10 +73,12 @@ mutual
   sub-leaves θ h (con c ts) = subs-leaves θ h ts
   sub-leaves θ h (arrow a b) = let i = sub-leaves θ h a in let j = sub-leaves θ h b in omega arith
 
+  -- The same of a list of types.
   subs-leaves : (θ : Fill) → ((v : TyVar) → leaves (θ v) ≡ 1) → (ts : Tys) → leaves-list (subs θ ts) ≡ leaves-list ts
   subs-leaves θ h nil = refl
   subs-leaves θ h (t ◂ ts) = let i = sub-leaves θ h t in let j = subs-leaves θ h ts in omega arith
 
+-- The same of predicates.
 preds-leaves : (θ : Fill) → ((v : TyVar) → leaves (θ v) ≡ 1) → (ps : List Pred) → leaves-preds (sub-preds θ ps) ≡ leaves-preds ps
 unfolding total
 preds-leaves θ h [] = refl
