@@ -136,6 +136,7 @@ past ix i h = sym (List·getD-eq-default ix 0 {n = i} h)
 -- The word of the index is the number.
 pub name-word : (ix : List ℕ) (i r : ℕ) → r ≡ getD ix i 0 → IsName ix i r
 name-word ix i r e = record {
+  word = e;
   is = λ bytes ns f a b c d g x h. ap (λ n. nameOf ns n) e ∙ g .names i x h .named;
   small = λ bytes ns f a b c d g x h. rw e (g .names i x h .number);
 }

@@ -3,7 +3,7 @@ use mathlib.Core.Path.{_≡_}
 use mathlib.Core.List.{List, []}
 use mathlib.Core.Option.{some}
 use Prim.Native.Nat.{ℕ, _+_, _<_}
-use lib.ListN.{length}
+use lib.ListN.{length, getD}
 use Rattle.meaning.specs.Base.{count, nth}
 use Rattle.meaning.specs.Ast.{Name}
 use Rattle.meaning.specs.Reader.{got, bad, Reader, from}
@@ -48,6 +48,7 @@ pub record Reads (bytes ns ix : List ℕ) (r : Code.Reading) : Type 0 where
 
 -- A number r of a name: in the table of a file that is read it is the number of the file's i-th name, one of its rows.
 pub record IsName (ix : List ℕ) (i r : ℕ) : Type 0 where
+  pub word : r ≡ getD ix i 0
   pub is : (bytes ns : List ℕ) (f : M.File) (a b c d : ℕ) → Indexed bytes ns ix f a b c d → (x : Name) → nth (f .names) i ≡ some x → nameOf ns r ≡ x
   pub small : (bytes ns : List ℕ) (f : M.File) (a b c d : ℕ) → Indexed bytes ns ix f a b c d → (x : Name) → nth (f .names) i ≡ some x → r < 1_059
 

@@ -10,18 +10,20 @@ use Rattle.meaning.specs.Reader.{got, Reader, onward, unless, from, counted, it
 use Rattle.theorems.proofs.Tests.{some-inj, none-some}
 use Rattle.reader.specs.declared.Count.the-variants.{Is, Bad}
 use Rattle.reader.specs.Verdicts.{IsCount}
-use Rattle.views.specs.Numbers.{numberAt, CountRead, Named, NamedAll, NamedRows}
+use Rattle.views.specs.Numbers.{or-zero, numberAt, countAt, CountRead, Named, NamedAll, NamedRows}
 use Rattle.views.proofs.Onward.{bad-not-got, read-is, read-ends, parted, item-ends, Moves, Went, went, one-of-moves}
 
 -- ## the count that the code reads
 pub count-is : (bytes : List ℕ) (at n : ℕ) → IsCount 64 bytes at (Is n) → CountRead bytes at n
-count-is bytes at n c = record { few = c .is .1; is = λ m next rest e. same n m _ next _ rest (sym (c .is .0) ∙ e) }
+unfolding countAt
+count-is bytes at n c = record { few = c .is .1; exact = sym (ap or-zero (c .is .0)); is = λ m next rest e. same n m _ next _ rest (sym (c .is .0) ∙ e) }
   where
     same : (n m p q : ℕ) (bs cs : List ℕ) → got n p bs ≡ got m q cs → n ≡ m
     same n m p q bs cs i = cc
 
 pub count-none : (bytes : List ℕ) (at : ℕ) (e : _) → IsCount 64 bytes at (Bad e) → CountRead bytes at 0
-count-none bytes at e c = record { few = omega arith; is = λ m next rest i. absurd (bad-not-got _ m next rest (sym (c .is) ∙ i)) }
+unfolding countAt
+count-none bytes at e c = record { few = omega arith; exact = sym (ap or-zero (c .is)); is = λ m next rest i. absurd (bad-not-got _ m next rest (sym (c .is) ∙ i)) }
 
 pub counted-moves : (most : ℕ) (bytes : List ℕ) (p n next : ℕ) (rest : List ℕ) → counted most p (from p bytes) ≡ got n next rest → (next ≡ p + 2) × (rest ≡ from (p + 2) bytes)
 unfolding counted

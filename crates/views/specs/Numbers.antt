@@ -26,9 +26,14 @@ valueAt k bytes at = or-zero (numeral k at (from at bytes))
 abbrev pub numberAt : List ℕ → ℕ → ℕ
 numberAt bytes at = valueAt 2 bytes at
 
+-- The count at a place, of at most 64 things; 0 where there is none such.
+unfoldable pub countAt : List ℕ → ℕ → ℕ
+countAt bytes at = or-zero (counted 64 at (from at bytes))
+
 -- A list's count at a place: right for every count that the definition reads there.
 pub record CountRead (bytes : List ℕ) (at r : ℕ) : Type 0 where
   pub few : r ≤ 64
+  pub exact : r ≡ countAt bytes at
   pub is : (n next : ℕ) (rest : List ℕ) → counted 64 at (from at bytes) ≡ got n next rest → r ≡ n
 
 -- The thing of that number.

@@ -2,15 +2,16 @@
 use mathlib.Core.Path.{_≡_}
 use mathlib.Core.List.{List}
 use mathlib.Core.Option.{some}
-use Prim.Native.Nat.{ℕ}
+use Prim.Native.Nat.{ℕ, zero, suc, _+_, _≤_}
+use lib.ListN.{length, getD}
 use Rattle.meaning.specs.Base.{nth}
 use Rattle.meaning.specs.Ast.{Name, named, Ty, var, con, arrow}
-use Rattle.meaning.specs.Reader.{got, from}
+use Rattle.meaning.specs.Reader.{Read, got, bad, from, numeral}
 use Rattle.meaning.specs.File.{tys-of, type-node}
 use Rattle.reader.specs.Placing.{upto, Placed}
 use Rattle.views.specs.declared.TypeNode.{TypeNode}
 use Rattle.views.specs.declared.TypeNode.the-variants.{Var, Con, Arrow, Nothing}
-use Rattle.views.specs.Numbers.{Named, NamedAll}
+use Rattle.views.specs.Numbers.{numberAt, countAt, Named, NamedAll}
 
 -- A variable, by its name's number.
 pub record VarAs (ns : List Name) (t : Ty) (x : ℕ) : Type 0 where
@@ -41,11 +42,42 @@ TypeAs bytes ns ts t (Con c p k) = ConAs bytes ns ts t c p k
 TypeAs bytes ns ts t (Arrow a b) = ArrowAs ts t a b
 TypeAs bytes ns ts t Nothing = ⊥
 
+-- The node at a place by its tag, whatever the file holds.
+abbrev pub taggedNode : List ℕ → ℕ → ℕ → TypeNode
+taggedNode bytes at zero = Var (numberAt bytes (at + 1))
+taggedNode bytes at (suc zero) = Con (numberAt bytes (at + 1)) (at + 5) (countAt bytes (at + 3))
+taggedNode bytes at (suc (suc zero)) = Arrow (numberAt bytes (at + 1)) (numberAt bytes (at + 3))
+taggedNode bytes at (suc (suc (suc tag))) = Nothing
+
+-- The node at a place after its tag was read.
+abbrev pub nodeFrom : List ℕ → ℕ → Read ℕ → TypeNode
+nodeFrom bytes at (got tag next rest) = taggedNode bytes at tag
+nodeFrom bytes at (bad r) = Nothing
+
+-- The node at a place.
+unfoldable pub typeNode : List ℕ → ℕ → TypeNode
+typeNode bytes at = nodeFrom bytes at (numeral 1 at (from at bytes))
+
+-- The node of type i, at its place in the index.
+unfoldable pub typeNodeAt : List ℕ → List ℕ → ℕ → TypeNode
+typeNodeAt bytes ix i = typeNode bytes (getD ix (2_048 + i) 0)
+
+-- A constructor's arguments begin in the file or just behind it, and are few.
+abbrev pub Small : List ℕ → TypeNode → Type 0
+Small bytes (Var x) = Unit {0}
+Small bytes (Con c p k) = (p ≤ length bytes + 4) × (k ≤ 64)
+Small bytes (Arrow a b) = Unit {0}
+Small bytes Nothing = Unit {0}
+
 -- The node at a place: right for every type that the definition reads there.
 pub record TypeRead (bytes : List ℕ) (at : ℕ) (r : TypeNode) : Type 0 where
+  pub exact : r ≡ typeNode bytes at
+  pub small : Small bytes r
   pub is : (ns : List Name) (ts : List Ty) (t : Ty) (next : ℕ) (rest : List ℕ) → type-node ns ts at (from at bytes) ≡ got t next rest → TypeAs bytes ns ts t r
 
 -- Type i of a file whose types stand at their places in the index. What it names are types of smaller number.
 pub record IsType (bytes ix : List ℕ) (i : ℕ) (r : TypeNode) : Type 0 where
+  pub exact : r ≡ typeNodeAt bytes ix i
+  pub small : Small bytes r
   pub is : (ns : List Name) (ts : List Ty) (at end : ℕ) (t : Ty) → Placed bytes ix 2_048 (type-node ns) ts at end → nth ts i ≡ some t
       → TypeAs bytes ns (upto i ts) t r
