@@ -1,0 +1,4 @@
+pub mod Decode
+pub mod Counting
+pub mod Rooms
+pub mod Growing
