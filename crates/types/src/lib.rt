@@ -103,7 +103,14 @@ fn parts_within(src: &[u8], index: &[u64], i: usize, p: usize, k: usize, limit: 
 }
 
 // Takes type i into the table, as a tree.
-pub fn take_type(base: &[u64], work: &mut [u64], src: &[u8], index: &[u64], top: usize, i: usize) -> Taken
+pub fn take_type(
+    base: &[u64],
+    work: &mut [u64],
+    src: &[u8],
+    index: &[u64],
+    top: usize,
+    i: usize,
+) -> Taken
     requires { ⌜ length (now base) ≤ 4 * top ⌝ }
     requires { ⌜ Room (now base ++ now work) top (λ (ns : List ℕ). size (typeOf (now src) ns (now index) i)) ⌝ }
     ensures { λ r. ⌜ Takes tree size 4 (now (base .entry) ++ now (work .entry)) (now (base .entry) ++ now (work .exit)) top
@@ -139,15 +146,20 @@ pub fn take_type(base: &[u64], work: &mut [u64], src: &[u8], index: &[u64], top:
                 top: y.top + 1,
             }
         }
-        TypeNode::Nothing => Taken {
-            word: 0,
-            top,
-        },
+        TypeNode::Nothing => Taken { word: 0, top },
     }
 }
 
 // Takes the type of number j in type i.
-fn take_part(base: &[u64], work: &mut [u64], src: &[u8], index: &[u64], top: usize, i: usize, j: usize) -> Taken
+fn take_part(
+    base: &[u64],
+    work: &mut [u64],
+    src: &[u8],
+    index: &[u64],
+    top: usize,
+    i: usize,
+    j: usize,
+) -> Taken
     requires { ⌜ length (now base) ≤ 4 * top ⌝ }
     requires { ⌜ Room (now base ++ now work) top (λ (ns : List ℕ). size (partOf (now src) ns (now index) i j)) ⌝ }
     ensures { λ r. ⌜ Takes tree size 4 (now (base .entry) ++ now (work .entry)) (now (base .entry) ++ now (work .exit)) top
@@ -156,14 +168,20 @@ fn take_part(base: &[u64], work: &mut [u64], src: &[u8], index: &[u64], top: usi
     if j < i {
         return take_type(base, work, src, index, top, j);
     }
-    Taken {
-        word: 0,
-        top,
-    }
+    Taken { word: 0, top }
 }
 
 // Takes the k arguments from the place p on in type i, as a list.
-fn take_parts(base: &[u64], work: &mut [u64], src: &[u8], index: &[u64], top: usize, i: usize, p: usize, k: usize) -> Taken
+fn take_parts(
+    base: &[u64],
+    work: &mut [u64],
+    src: &[u8],
+    index: &[u64],
+    top: usize,
+    i: usize,
+    p: usize,
+    k: usize,
+) -> Taken
     requires { ⌜ length (now base) ≤ 4 * top ⌝ }
     requires { ⌜ p + 2 * k ≤ length (now src) + 132 ⌝ }
     requires { ⌜ Room (now base ++ now work) top (λ (ns : List ℕ). sizes (partsOf (now src) ns (now index) i p k)) ⌝ }
