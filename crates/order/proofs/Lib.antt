@@ -1,0 +1,4 @@
+pub mod Less
+pub mod Tallies
+pub mod Moves
+pub mod Gathering
