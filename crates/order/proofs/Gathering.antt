@@ -2,17 +2,15 @@
 use mathlib.Core.Path.{_≡_, refl, sym, ap, _∙_}
 use mathlib.Core.Bool.{Bool, true, false}
 use mathlib.Core.List.{List}
-use Prim.Native.Nat.{ℕ, zero, suc, _+_, _-_, _<_, _≤_}
+use Prim.Native.Nat.{ℕ, suc, _+_, _-_, _<_, _≤_}
 use native.Mathlib.Omega.{arith}
 use native.Mathlib.Decide.{ℕ-discrete, decLt}
 use lib.ListN.{length, getD}
 use Rattle.meaning.specs.Ast.{name-before}
-use Rattle.meaning.specs.Map.{names}
 use Rattle.names.specs.Names.{nameOf, Names}
 use Rattle.names.proofs.Distinct.{nameOf-same}
 use Rattle.theorems.proofs.ByteOrder.{names-ordered}
-use Rattle.scope.specs.Scope.{Order, Listed}
-use Rattle.order.specs.Sorting.{due, chosen, tally, In, Low, Gathered, Room, Inserted, Passed, Ordered}
+use Rattle.order.specs.Sorting.{due, chosen, In, Gathered, Inserted, Passed, Ordered}
 use Rattle.order.proofs.Tallies.{tally-same, tally-most, tally-all, tally-none, tally-more, chosen-none, chosen-then, chosen-all, chosen-other, chosen-not-yet, chosen-now, chosen-past}
 
 -- Where a number of the new words comes from: it is the new one, or an old one before or after it.

@@ -2,11 +2,10 @@
 use mathlib.Core.Path.{_≡_, refl, sym, ap, _∙_}
 use mathlib.Core.Bool.{Bool, true, false}
 use mathlib.Core.List.{List}
-use Prim.Native.Nat.{ℕ, zero, suc, _+_, _*_, _<_, _≤_}
+use Prim.Native.Nat.{ℕ, zero, suc, _+_, _<_, _≤_}
 use native.Mathlib.Omega.{arith}
 use native.Mathlib.Decide.{ℕ-discrete, decLt}
-use lib.ListN.{getD}
-use Rattle.meaning.specs.Base.{if, eqb, ltb}
+use Rattle.meaning.specs.Base.{if, ltb}
 use Rattle.names.proofs.Tests.{lt-yes, lt-no}
 use Rattle.order.specs.Sorting.{idle, due, chosen, tally}
 
@@ -77,7 +76,7 @@ chosen-all ns x h = rw (lt-yes x 1_059 h) (go (idle ns x))
     go true = refl
     go false = refl
 
--- Another row than the next one is as it was.
+-- Another number than r lies below r where it lies below the next one.
 next-other : (x r : ℕ) → (x ≡ r → ⊥) → ltb x r ≡ ltb x (r + 1)
 next-other x r n = go (decLt x r)
   where
@@ -85,6 +84,7 @@ next-other x r n = go (decLt x r)
     go (yes h) = lt-yes x r h ∙ sym (lt-yes x (r + 1) (omega arith))
     go (no h) = lt-no x r (omega arith) ∙ sym (lt-no x (r + 1) (omega arith))
 
+-- So another row than the next one is taken or not as it was.
 pub chosen-other : (ns : List ℕ) (low : Bool) (r x : ℕ) → (x ≡ r → ⊥) → chosen ns low r x ≡ chosen ns low (r + 1) x
 unfolding chosen
 chosen-other ns true r x n = rw (next-other x r n) refl

@@ -4,36 +4,36 @@ use mathlib.Core.List.{List}
 use mathlib.Core.Option.{some}
 use Prim.Native.Nat.{ℕ, zero, suc, _+_, _*_, _<_, _≤_}
 use native.Mathlib.Omega.{arith}
-use lib.ListN.{length}
-use Rattle.meaning.specs.Ast.{Ty, Scheme}
+use lib.ListN.{length, getD}
 use Rattle.meaning.specs.Map.{names, insert}
 use Rattle.meaning.specs.Generalize.{Env}
 use Rattle.meaning.specs.Infer.{mono}
 use Rattle.meaning.specs.Session.{primitives}
-use Rattle.names.specs.Names.{nameOf, first-nullary}
-use Rattle.ast.specs.Table.{tree, Table, Node}
+use Rattle.names.specs.Names.{first-nullary}
+use Rattle.ast.specs.Table.{Table, Node}
 use Rattle.ast.proofs.Laws.{low-node}
 use Rattle.pairs.specs.Pairs.{Stands}
 use Rattle.pairs.proofs.Frames.{stands-refl, stands-then, stands-up}
 use Rattle.subst.specs.Schemes.{schemeOf}
 use Rattle.scope.specs.Scope.{entryOf, withEntry, envOf, EntryIn, Scope}
-use Rattle.scope.specs.declared.Entry.the-variants.{Closed}
+use Rattle.scope.specs.declared.Entry.the-variants.{Nothing, Closed}
 use Rattle.scope.proofs.EntryLaws.{entry-long}
 use Rattle.scope.proofs.Fines.{mono-is, mono-held}
 use Rattle.scope.proofs.Laws.{scope-put, scope-with, scope-kept, env-kept}
 use Rattle.scope.proofs.Empties.{bare-scope, bare-env}
 use Rattle.primitives.specs.declared.Primitive.{Primitive}
-use Rattle.primitives.specs.Prims.{title, kind, arity, arrows, firsts, baseTy, curried, Row, TypeMade, ReadyOne, GivesOne, ReadyPrims, GivesPrims}
+use Rattle.primitives.specs.Prims.{title, kind, arrows, firsts, Row, TypeMade, ReadyOne, GivesOne, ReadyPrims, GivesPrims}
 use Rattle.primitives.proofs.Rowed.{title-is, kind-closed, firsts-next, firsts-all, arrows-all, arrows-most}
 use Rattle.primitives.proofs.Typed.{base-word}
 
 -- ## One primitive
 
 module _ {ns w ev od : List ℕ} {top p : ℕ} {r : Primitive} (R : ReadyOne ns w ev od top p) (Q : Row p r) where
-  -- The words of its types are words of the table.
+  -- The word of its arguments' type is one of the table.
   pub argument-node : Node w top (first-nullary + r .argument)
   argument-node = let h = Q .argument in low-node (R .table) (omega arith)
 
+  -- And that of its result's type.
   pub result-node : Node w top (first-nullary + r .result)
   result-node = let h = Q .result in low-node (R .table) (omega arith)
 
@@ -41,10 +41,11 @@ module _ {ns w ev od : List ℕ} {top p : ℕ} {r : Primitive} (R : ReadyOne ns 
   pub one-room : 4 * (top + r .many) ≤ length w
   one-room = let m = Q .many in let h = R .room in omega arith
 
-  -- Its name has a row.
+  -- Its name is one of those that have rows.
   pub one-below : r .number < length od
   one-below = let a = Q .number in let b = R .first in let c = R .rows in omega arith
 
+  -- Its row lies in the words.
   pub one-row : 4 * r .number + 4 ≤ length ev
   one-row = let a = one-below in let b = R .scope .fits in omega arith
 
@@ -78,6 +79,11 @@ module _ {ns w ev od : List ℕ} {top p : ℕ} {r : Primitive} (R : ReadyOne ns 
     })
 
 -- ## All of them
+
+-- A row whose state is zero says nothing: so do all rows of a slice of zeros.
+pub zero-row : (ev : List ℕ) (r : ℕ) → getD ev (4 * r) 0 ≡ 0 → entryOf ev r ≡ Nothing
+unfolding entryOf
+zero-row ev r e = rw e
 
 -- The loop has added the first p.
 pub record Adding (ns w ev od : List ℕ) (top : ℕ) (w₁ ev₁ : List ℕ) (t p : ℕ) : Type 0 where

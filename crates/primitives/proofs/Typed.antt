@@ -1,15 +1,14 @@
 -- The arrows of a type are made one after the other, the last one first.
-use mathlib.Core.Path.{_≡_, refl, sym, ap, _∙_}
+use mathlib.Core.Path.{_≡_, refl, ap, _∙_}
 use mathlib.Core.List.{List, []}
 use Prim.Native.Nat.{ℕ, zero, suc, _+_, _*_, _^_, _<_, _≤_}
 use native.Mathlib.Omega.{arith}
 use lib.ListN.{length}
-use Rattle.meaning.specs.Ast.{Ty, arrow, con, nil, int, bool}
+use Rattle.meaning.specs.Ast.{arrow, con, nil, int, bool}
 use Rattle.names.specs.Names.{first-node, first-nullary}
-use Rattle.ast.specs.Table.{tree, Table, Node, Kept, pushed}
+use Rattle.ast.specs.Table.{tree, Node, pushed}
 use Rattle.ast.proofs.Laws.{kept-tree, node-more, low-con}
 use Rattle.ast.proofs.NewNode.{Pushed, push-arrow}
-use Rattle.pairs.specs.Pairs.{Stands}
 use Rattle.pairs.proofs.Frames.{stands-refl, stands-then, stands-up, pushed-stands}
 use Rattle.rows.specs.BuiltIns.{built-ins, BuiltIns}
 use Rattle.meaning.specs.Base.{nth}

@@ -1,6 +1,5 @@
 // The seven primitives of 000 and their types stand in a table, from which a fresh environment is filled.
 use scope::Entry;
-ghost use mathlib.Core.Path.{_≡_};
 ghost use mathlib.Core.List.{_++_};
 ghost use Prim.Native.Nat.{_+_, _*_, _<_, _≤_};
 ghost use lib.ListN.{length};
@@ -18,30 +17,37 @@ pub struct Primitive {
 
 // The rows in the byte order of the names. Type 0 is `Int`, type 1 is `Bool`.
 const PRIMITIVES: [usize; 28] = [
+    // primAddInt: Int -> Int -> Int
     2,
     0,
     2,
     0,
+    // primAndBool: Bool -> Bool -> Bool
     3,
     1,
     2,
     1,
+    // primEqBool: Bool -> Bool -> Bool
     4,
     1,
     2,
     1,
+    // primEqInt: Int -> Int -> Bool
     5,
     0,
     2,
     1,
+    // primLtInt: Int -> Int -> Bool
     6,
     0,
     2,
     1,
+    // primMulInt: Int -> Int -> Int
     7,
     0,
     2,
     0,
+    // primNotBool: Bool -> Bool
     8,
     1,
     1,

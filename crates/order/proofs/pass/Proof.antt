@@ -2,7 +2,6 @@
 use Prim.Native.Nat.{_-_}
 use mathlib.Core.Path.{_∙_}
 use native.Mathlib.Omega.{arith}
-use borrow.Author.Needs.{needs}
 use Rattle.order.proofs.Gathering.{Passing, none-passed, one-passed, all-passed}
 use Rattle.order.proofs.pass.Statement.{statement}
 use Rattle.order.proofs.pass.Tie as tie

@@ -1,6 +1,5 @@
 -- First the idle rows, then the others.
 use mathlib.Core.Path.{_∙_}
-use borrow.Author.Needs.{needs}
 use Rattle.order.proofs.Gathering.{none-gathered, half-gathered, all-gathered}
 use Rattle.order.proofs.sort_names.Statement.{statement}
 use Rattle.order.proofs.sort_names.Tie as tie

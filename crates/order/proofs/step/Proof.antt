@@ -1,6 +1,5 @@
 -- A row that is taken is one number more.
 use native.Mathlib.Omega.{arith}
-use borrow.Author.Needs.{needs}
 use Rattle.order.proofs.Gathering.{step-room, step-on, step-over}
 use Rattle.order.proofs.step.Statement.{statement}
 use Rattle.order.proofs.step.Tie as tie

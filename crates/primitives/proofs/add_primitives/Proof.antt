@@ -2,7 +2,6 @@
 use Prim.Native.Nat.{_-_}
 use mathlib.Core.List.{_++_}
 use native.Mathlib.Omega.{arith}
-use borrow.Author.Needs.{needs}
 use Rattle.scope.proofs.Sweeping.{same-short}
 use Rattle.primitives.proofs.Added.{Adding, none-added, next-ready, next-added, all-added}
 use Rattle.primitives.proofs.add_primitives.Statement.{statement}

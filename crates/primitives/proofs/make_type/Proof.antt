@@ -1,13 +1,11 @@
 -- The loop's invariant: i of the arrows are made. The measure is how many are left.
-use Prim.Native.Nat.{ℕ, _-_, _<_, _^_}
+use Prim.Native.Nat.{_-_}
 use mathlib.Core.List.{_++_}
 use native.Mathlib.Omega.{arith}
-use lib.ListN.{length}
-use borrow.Author.Needs.{needs}
 use Rattle.ast.proofs.Join.{joined}
 use Rattle.pairs.proofs.Frames.{long}
 use Rattle.scope.proofs.Sweeping.{same-short}
-use Rattle.primitives.proofs.Typed.{Typing, none-typed, type-room, type-small, one-typed, all-typed}
+use Rattle.primitives.proofs.Typed.{Typing, none-typed, type-room, one-typed, all-typed}
 use Rattle.primitives.proofs.make_type.Statement.{statement}
 use Rattle.primitives.proofs.make_type.Tie as tie
 
