@@ -101,6 +101,15 @@ pub record GivesReplaced (ns cl w w′ bs bs′ : List ℕ) (top left sp n e : �
   pub outside : (k : ℕ) → 3 * n ≤ k → getD bs′ k 0 ≡ getD bs k 0
   pub answer : ReplacedAs ns cl w w′ bs bs′ top left sp n e r
 
+-- The same of the rows from number nd up to number n, which are lent as rows of their own: part, and then part′.
+pub record GivesFrom (ns cl w w′ bs bs′ : List ℕ) (top left sp nd n e : ℕ) (r : Applied) : Type 0 where
+  pub part : List ℕ
+  pub part′ : List ℕ
+  pub cut : (j : ℕ) → j < n - nd → rowAt part j ≡ rowAt bs (nd + j)
+  pub back : (j : ℕ) → j < n - nd → rowAt bs′ (nd + j) ≡ rowAt part′ j
+  pub before : (j : ℕ) → j < nd → rowAt bs′ j ≡ rowAt bs j
+  pub gives : GivesReplaced ns cl w w′ part part′ top left sp (n - nd) e r
+
 -- ## All of it
 
 -- The environment of the slices ev and od, the words il of the instances, n pending rows, the binding's type t and its term e;
@@ -154,5 +163,4 @@ SettledAs ns cl w w′ il ev od bs bs′ top left n t e (Settled-Refused q top�
 pub record GivesSettled (ns cl w w′ il ev od bs bs′ : List ℕ) (top left sp n t e : ℕ) (r : Settled) : Type 0 where
   pub stands : Stands w w′ top sp
   pub long : length bs′ ≡ length bs
-  pub behind : (i : ℕ) → 3 * n ≤ i → getD bs′ i 0 ≡ getD bs i 0
   pub answer : SettledAs ns cl w w′ il ev od bs bs′ top left n t e r

@@ -1,10 +1,10 @@
 -- What `generalize_binding` and `finalize_expr` do before the canonical names: pending predicates are reduced, those that
 -- stay are simplified, and their dictionaries replace names in the term.
-use mathlib.Core.Bool.{Bool, true, not}
+use mathlib.Core.Bool.{Bool, not}
 use mathlib.Core.List.{List, []}
 use Rattle.meaning.specs.Base.{keep, first}
 use Rattle.meaning.specs.Ast.{Ty, Qual, qual, Scheme, Core, Binder}
-use Rattle.meaning.specs.Budget.{Out, done, Steps, after, _>>=_, pure}
+use Rattle.meaning.specs.Budget.{Steps, after, _>>=_, pure}
 use Rattle.meaning.specs.Subst.{ftv-type, ftv-qual, without}
 use Rattle.meaning.specs.Classes.{ClassEnv}
 use Rattle.meaning.specs.Reduce.{reduce, simplify-context}

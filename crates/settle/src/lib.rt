@@ -13,7 +13,7 @@ ghost use Rattle.meaning.specs.Generalize.{env-ftv};
 ghost use Rattle.ast.specs.Table.{tree};
 ghost use Rattle.scope.specs.Scope.{envOf};
 ghost use Rattle.pending.specs.Owned.{ReadyOwn};
-ghost use Rattle.settle.specs.Answers.{GivesSorted, ReadyReplace, GivesReplaced, ReadySettle, GivesSettled};
+ghost use Rattle.settle.specs.Answers.{GivesSorted, ReadyReplace, GivesReplaced, GivesFrom, ReadySettle, GivesSettled};
 
 // The term's word, how many rows are deferred, the first free node and the steps left; or a refusal with both.
 pub enum Settled {
@@ -71,6 +71,43 @@ fn replace(
     }
 }
 
+// The same of the rows from number nd up to number n.
+fn replace_from(
+    base: &[u64],
+    work: &mut [u64],
+    names: &[u64],
+    classes: &[u64],
+    binders: &mut [u64],
+    top: usize,
+    left: usize,
+    sp: usize,
+    nd: usize,
+    n: usize,
+    e: usize,
+) -> Applied
+    requires { ⌜ nd ≤ n ⌝ }
+    requires { ⌜ 3 * n ≤ length (now binders) ⌝ }
+    requires { ⌜ length (now base) ≤ 4 * top ⌝ }
+    requires { ⌜ ReadyReplace (now names) (now base ++ now work) (now binders) top left sp n e ⌝ }
+    ensures { λ r. ⌜ GivesFrom (now (names .entry)) (now (classes .entry)) (now (base .entry) ++ now (work .entry)) (now (base .entry) ++ now (work .exit))
+        (now (binders .entry)) (now (binders .exit)) top left sp nd n e r ⌝ }
+{
+    let from = 3 * nd;
+    let k = n - nd;
+    replace(
+        base,
+        work,
+        names,
+        classes,
+        &mut binders[from..],
+        top,
+        left,
+        sp,
+        k,
+        e,
+    )
+}
+
 // The first n rows, all pending, are reduced; of those that stay the deferred ones come to the front, and the others are
 // simplified. The term e gets the dictionaries for the names that were replaced.
 pub fn settle(
@@ -111,9 +148,7 @@ pub fn settle(
     match r {
         Reduced::Done(t2, l2) => {
             let nd = sort_out(base, work, names, env, order, binders, t2, n, t);
-            let from = 3 * nd;
-            let k = n - nd;
-            let f = replace(base, work, names, classes, &mut binders[from..], t2, l2, sp, k, e);
+            let f = replace_from(base, work, names, classes, binders, t2, l2, sp, nd, n, e);
             match f {
                 Applied::Done(u, t3, l3) => Settled::Done(u, nd, t3, l3),
                 Applied::Refused(q, t3, l3) => Settled::Refused(q, t3, l3),
