@@ -43,7 +43,7 @@ pub record Known (ns cl w : List ℕ) (top : ℕ) (il : List ℕ) (ps : Pending)
   pub asked : Asked ns cl w top il (names-of ps) e ce
   pub type : MadeTy t
   pub pending : MadePending ps
-  pub env : MadeEnv env
+  pub schemes : MadeEnv env
 
 -- ## The second half: what is left is tested and named
 

@@ -2,29 +2,29 @@
 use mathlib.Core.Path.{_≡_}
 use mathlib.Core.List.{List}
 use Prim.Native.Nat.{ℕ, _+_, _*_, _<_, _≤_}
-use lib.ListN.{length, take}
-use Rattle.meaning.specs.Base.{count}
-use Rattle.meaning.specs.Ast.{Qual, Scheme, Core}
+use lib.ListN.{length}
+use Rattle.meaning.specs.Ast.{TyVar, var, Qual, Scheme, Core}
 use Rattle.meaning.specs.Budget.{Out, done}
-use Rattle.meaning.specs.Subst.{Subst, apply-preds-pending, apply-qual}
-use Rattle.meaning.specs.Cores.{canonical-renamer, as-subst, canonical-scheme-and-core, canonicalize-pair}
+use Rattle.meaning.specs.Subst.{Subst, look, apply-qual}
+use Rattle.meaning.specs.Cores.{canonical-renamer, as-subst, apply-subst-to-core, canonical-scheme-and-core, canonicalize-pair}
 use Rattle.meaning.specs.Generalize.{Env, abstracted}
 use Rattle.theorems.proofs.Made.{MadeQual, MadeEnv}
 use Rattle.names.specs.Names.{Names}
-use Rattle.ast.specs.Table.{nil-word, tree, Node}
+use Rattle.ast.specs.Table.{tree, Node}
 use Rattle.errors.specs.Refusals.{Refuses}
 use Rattle.pairs.specs.Pairs.{Stands}
 use Rattle.subst.specs.Preds.{predsOf}
 use Rattle.subst.specs.Schemes.{schemeOf}
+use Rattle.subst.specs.declared.AppliedQual.{AppliedQual}
+use Rattle.subst.specs.declared.AppliedQual.the-variants.{Done, Refused}
 use Rattle.scope.specs.Scope.{envOf, Scope, Smalls, Held}
 use Rattle.cores.specs.Terms.{core}
 use Rattle.supers.specs.Rows.{rowAt, bindersIn}
 use Rattle.rows.specs.BuiltIns.{BuiltIns}
-use Rattle.rename.specs.Renaming.{Renames}
+use Rattle.rename.specs.Renaming.{leaves}
 use Rattle.canonical.specs.Named.{rowsQual, listQual, bound}
+use Rattle.canonical.specs.Rows.{leaves-preds, Letters}
 use Rattle.settle.specs.Answers.{OwnRow}
-use Rattle.generalize.specs.declared.naming.Lettered.{Lettered}
-use Rattle.generalize.specs.declared.naming.Lettered.the-variants.{Done as Lettered-Done, Refused as Lettered-Refused}
 use Rattle.generalize.specs.declared.naming.Named.{Named}
 use Rattle.generalize.specs.declared.naming.Named.the-variants.{Done as Named-Done, Refused as Named-Refused}
 use Rattle.generalize.specs.declared.naming.Paired.{Paired}
@@ -49,43 +49,59 @@ pub record ReadyNames (ns w ev od bs : List ℕ) (top left sp n t : ℕ) : Type 
 -- What only the meaning knows: the names begin with the built-in ones, and all variables were made.
 pub record Unnamed (ns : List ℕ) (q : Qual) (env : Env) : Type 0 where
   pub built : BuiltIns ns
-  pub qual : MadeQual q
-  pub env : MadeEnv env
+  pub type : MadeQual q
+  pub schemes : MadeEnv env
 
 -- ## Predicates and type
 
--- The renaming of the variables that a scheme binds.
-abbrev pub canonical : Qual → Env → Subst
-canonical q env = as-subst (canonical-renamer (bound q env))
+-- The variable becomes one that stays.
+pub record Stays (s : Subst) (x : TyVar) : Type 0 where
+  pub name : TyVar
+  pub is : look s x ≡ var name
+  pub stays : look s name ≡ var name
 
--- The qualified type q became that of the list ps and the type t′, and so did the rows; renaming these once more does what
--- renaming those of before does. The first k words of ls get the letters. There is room for a cell for each bound variable.
-pub record NamesQual (ns w w′ ev od ls bs bs′ : List ℕ) (top left n t k ps t′ top′ left′ : ℕ) : Type 0 where
-  pub few : k ≤ 26
+-- At most 26 words ls, n rows and a type t.
+pub record ReadyLetters (ns w ls bs : List ℕ) (top left sp n t : ℕ) : Type 0 where
+  pub names : Names ns
+  pub letters : length ls ≤ 26
+  pub rows : OwnRows w bs top n
+  pub type : Node w top t
+  pub room : 4 * top + 8 * left ≤ sp
+  pub fits : sp ≤ length w
+
+-- The words ls became letters: the predicates are those of the list ps, the type is t′, and the rows were renamed too. Where new
+-- names stay, to rename a term over them is to rename it over those of before. For each variable 4 words were not used.
+pub record NamesQual (ns w w′ ls bs bs′ : List ℕ) (top left n t ps t′ top′ left′ : ℕ) : Type 0 where
   pub preds : Node w′ top′ ps
   pub type : Node w′ top′ t′
   pub rows : OwnRows w′ bs′ top′ n
   pub small : Smalls ns (predsOf ns w′ ps)
   pub more : top ≤ top′
-  pub spent : 4 * top′ + 8 * left′ + 4 * count (bound (listQual ns w′ ps t′) (envOf ns w ev od)) ≤ 4 * top + 8 * left
+  pub spent : 4 * top′ + 8 * left′ + 4 * (leaves-preds (predsOf ns w′ ps) + leaves (tree ns w′ t′)) ≤ 4 * top + 8 * left
   pub down : left′ ≤ left
-  pub letters : BuiltIns ns → MadeQual (rowsQual ns w bs n t) → Renames ns w nil-word 0 (take k ls) (canonical (rowsQual ns w bs n t) (envOf ns w ev od))
-  pub again : BuiltIns ns → MadeQual (rowsQual ns w bs n t) → (m : ℕ)
-      → apply-preds-pending (canonical (rowsQual ns w bs n t) (envOf ns w ev od)) (bindersIn ns w′ bs′ 0 n) m
-      ≡ apply-preds-pending (canonical (rowsQual ns w bs n t) (envOf ns w ev od)) (bindersIn ns w bs 0 n) m
-  pub is : BuiltIns ns → MadeQual (rowsQual ns w bs n t)
-      → apply-qual (canonical (rowsQual ns w bs n t) (envOf ns w ev od)) (rowsQual ns w bs n t) left ≡ done (listQual ns w′ ps t′) left′
+  pub again : (s : Subst) → Letters ns w ls s → ((x : TyVar) → Stays s x) → (c : Core) (m : ℕ)
+      → apply-subst-to-core s (abstracted (bindersIn ns w′ bs′ 0 n) c) m ≡ apply-subst-to-core s (abstracted (bindersIn ns w bs 0 n) c) m
+  pub is : (s : Subst) → Letters ns w ls s → apply-qual s (rowsQual ns w bs n t) left ≡ done (listQual ns w′ ps t′) left′
 
 -- The code's answer.
-abbrev pub LetteredAs : List ℕ → List ℕ → List ℕ → List ℕ → List ℕ → List ℕ → List ℕ → List ℕ → ℕ → ℕ → ℕ → ℕ → Lettered → Type 0
-LetteredAs ns w w′ ev od ls bs bs′ top left n t (Lettered-Done k ps t′ top′ left′) = NamesQual ns w w′ ev od ls bs bs′ top left n t k ps t′ top′ left′
-LetteredAs ns w w′ ev od ls bs bs′ top left n t (Lettered-Refused x top′ left′) = BuiltIns ns → MadeQual (rowsQual ns w bs n t)
-    → Refuses ns w′ top left (apply-qual (canonical (rowsQual ns w bs n t) (envOf ns w ev od)) (rowsQual ns w bs n t) left) x top′ left′
+abbrev pub LetteredAs : List ℕ → List ℕ → List ℕ → List ℕ → List ℕ → List ℕ → ℕ → ℕ → ℕ → ℕ → AppliedQual → Type 0
+LetteredAs ns w w′ ls bs bs′ top left n t (Done ps t′ top′ left′) = NamesQual ns w w′ ls bs bs′ top left n t ps t′ top′ left′
+LetteredAs ns w w′ ls bs bs′ top left n t (Refused x top′ left′) =
+    (s : Subst) → Letters ns w ls s → Refuses ns w′ top left (apply-qual s (rowsQual ns w bs n t) left) x top′ left′
 
--- The words became w′, the rows bs′, and ls are the words that get the letters: table and stack stand.
-pub record GivesLettered (ns w w′ ev od ls bs bs′ : List ℕ) (top left sp n t : ℕ) (r : Lettered) : Type 0 where
+-- The words became w′ and the rows bs′: table and stack stand.
+pub record GivesLettered (ns w w′ ls bs bs′ : List ℕ) (top left sp n t : ℕ) (r : AppliedQual) : Type 0 where
   pub stands : Stands w w′ top sp
-  pub answer : LetteredAs ns w w′ ev od ls bs bs′ top left n t r
+  pub answer : LetteredAs ns w w′ ls bs bs′ top left n t r
+
+-- The renaming of the variables that a scheme binds.
+abbrev pub canonical : Qual → Env → Subst
+canonical q env = as-subst (canonical-renamer (bound q env))
+
+-- The words ls are those that get the letters by it.
+pub record Chosen (ns w ls : List ℕ) (q : Qual) (env : Env) : Type 0 where
+  pub few : length ls ≤ 26
+  pub renames : BuiltIns ns → MadeQual q → Letters ns w ls (canonical q env)
 
 -- ## A scheme and a term
 

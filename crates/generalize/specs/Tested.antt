@@ -30,6 +30,11 @@ abbrev pub strayRow : List TyVar → List TyVar → List ℕ → List ℕ → Ro
 strayRow fs es ns w (Pending d c t) = strays fs es (tree ns w t)
 strayRow fs es ns w (Replaced d x) = false
 
+-- The class and the type of a pending row.
+abbrev pub clearOf : Row → Clear
+clearOf (Pending d c t) = First c t
+clearOf (Replaced d x) = All
+
 -- None of some predicates is ambiguous, or the first one that is has class c and type t.
 abbrev pub ClearAs : List TyVar → List TyVar → List ℕ → List ℕ → ℕ → List Pred → Clear → Type 0
 ClearAs fs es ns w top ps All = first (strayPred fs es) ps ≡ none

@@ -3,7 +3,8 @@ use ast::Shape;
 use supers::rows::Row;
 ghost use mathlib.Core.Path.{_≡_};
 ghost use mathlib.Core.List.{[], _++_};
-ghost use Prim.Native.Nat.{_<_};
+ghost use Prim.Native.Nat.{_+_, _*_, _<_, _≤_};
+ghost use lib.ListN.{length};
 ghost use Rattle.meaning.specs.Ast.{var};
 ghost use Rattle.meaning.specs.Subst.{ftv-type};
 ghost use Rattle.meaning.specs.Generalize.{env-ftv, preds-of};
@@ -12,7 +13,7 @@ ghost use Rattle.ast.specs.Table.{tree};
 ghost use Rattle.supers.specs.Rows.{rowAt, bindersIn};
 ghost use Rattle.scope.specs.Scope.{envOf};
 ghost use Rattle.canonical.specs.Named.{ReadyType, ReadyRows};
-ghost use Rattle.generalize.specs.Tested.{strays, strayRow, Tests};
+ghost use Rattle.generalize.specs.Tested.{strays, strayRow, clearOf, Tests};
 
 // No predicate is ambiguous; or the class and the type of the first one that is.
 pub enum Clear {
@@ -74,6 +75,18 @@ fn is_stray(
     }
 }
 
+// The class and the type of row i, if it is pending.
+fn row_of(binders: &[u64], i: usize) -> Clear
+    requires { ⌜ 3 * i + 3 ≤ length (now binders) ⌝ }
+    ensures { λ r. ⌜ r ≡ clearOf (rowAt (now (binders .entry)) i) ⌝ }
+{
+    let q = supers::rows::row_at(binders, i);
+    match q {
+        Row::Pending(_, c, u) => Clear::First(c, u),
+        Row::Replaced(_, _) => Clear::All,
+    }
+}
+
 // The first pending one of the first n rows at a variable that neither the type t nor the environment has.
 pub fn ambiguous(
     base: &[u64],
@@ -95,11 +108,7 @@ pub fn ambiguous(
     let mut i: usize = 0;
     while i < n {
         if is_stray(base, work, names, env, order, binders, top, n, t, i) {
-            let q = supers::rows::row_at(binders, i);
-            match q {
-                Row::Pending(_, c, u) => return Clear::First(c, u),
-                Row::Replaced(_, _) => {}
-            }
+            return row_of(binders, i);
         }
         i += 1;
     }
