@@ -38,7 +38,22 @@ fn rest(
     let at = sp - 2 * k;
     let r = pending::apply_rows(base, work, names, binders, top, left, at, k, m);
     match r {
-        pending::Swept::Done(t2, l2) => generalize::generalize(base, work, names, classes, insts, env, order, binders, t2, l2, at, m, t, e),
+        pending::Swept::Done(t2, l2) => generalize::generalize(
+            base,
+            work,
+            names,
+            classes,
+            insts,
+            env,
+            order,
+            binders,
+            t2,
+            l2,
+            at,
+            m,
+            t,
+            e,
+        ),
         pending::Swept::Refused(x, t2, l2) => Generalized::Refused(x, t2, l2),
     }
 }
@@ -71,7 +86,25 @@ pub fn general(
     let at = sp - 2 * k;
     let s = scope::apply_env(base, work, names, env, order, top, left, at, k);
     match s {
-        scope::Swept::Done(t2, l2) => rest(base, work, names, classes, insts, order, env, binders, t2, l2, sp, tv, dv, k, m, t, e),
+        scope::Swept::Done(t2, l2) => rest(
+            base,
+            work,
+            names,
+            classes,
+            insts,
+            order,
+            env,
+            binders,
+            t2,
+            l2,
+            sp,
+            tv,
+            dv,
+            k,
+            m,
+            t,
+            e,
+        ),
         scope::Swept::Refused(x, t2, l2) => Generalized::Refused(x, t2, l2),
     }
 }
