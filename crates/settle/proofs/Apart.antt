@@ -17,6 +17,7 @@ module _ (sub : Map DictName Core) where
   mutual
     unfolding Apart
 
+    -- A term.
     pub apart-of : (e : Core) → Bound (λ d. get dicts d sub ≡ none) e → Apart e sub
     apart-of (cvar x) h = tt
     apart-of (cdict d) h = tt
@@ -30,6 +31,7 @@ module _ (sub : Map DictName Core) where
     apart-of (dict-proj e m) h = apart-of e h
     apart-of (dict-rec c a i) h = tt
 
+    -- Each of a list.
     pub apart-all : (es : Cores) → BoundIn (λ d. get dicts d sub ≡ none) es → AllApart es sub
     apart-all cnil h = tt
     apart-all (e ◃ es) h = (apart-of e (h .0), apart-all es (h .1))

@@ -28,13 +28,14 @@ use Rattle.settle.specs.Answers.{GivesSorted, ReadyReplace, Simplifying,
 
 -- ## sort_out
 
--- A row with a type or none, and a name that has a word, after an earlier row had its predicate.
+-- A row's name has a word still, if an earlier row has its predicate.
 alias-word : (fs es : List TyVar) (ns w : List ℕ) (os : List Binder) (r r′ : Row) → HasWord r → Aliased fs es ns w os r r′ → HasWord r′
 alias-word fs es ns w os (Pending d c t) (Pending d′ c′ t′) h a = subst (λ (q : Row). HasWord q) (sym (a .0)) h
 alias-word fs es ns w os (Pending d c t) (Replaced d′ x) h a = tt
 alias-word fs es ns w os (Replaced d x) (Pending d′ c′ t′) h a = absurd a
 alias-word fs es ns w os (Replaced d x) (Replaced d′ x′) h a = tt
 
+-- Its type.
 alias-type : (fs es : List TyVar) (ns w : List ℕ) (os : List Binder) (top : ℕ) (r r′ : Row) → TypeIn w top r → Aliased fs es ns w os r r′ → TypeIn w top r′
 alias-type fs es ns w os top (Pending d c t) (Pending d′ c′ t′) h a = subst (λ (q : Row). TypeIn w top q) (sym (a .0)) h
 alias-type fs es ns w os top (Pending d c t) (Replaced d′ x) h a = tt

@@ -67,6 +67,7 @@ pub data Before (r : Row) (d x : ℕ) : Type 0 where
   was-open : (c t : ℕ) → r ≡ Pending d c t → Before r d x
   was-so : r ≡ Replaced d x → Before r d x
 
+-- One of both.
 pub left-from : {d x : ℕ} (r r′ : Row) → r′ ≡ Replaced d x → RowLeft r r′ → Before r d x
 left-from (Pending a b u) (Pending d′ c′ t′) e h = absurd (let z : _≡_ {A = ℕ} 0 1 = cc in omega arith)
 left-from {d} (Pending a b u) (Replaced d′ y) e h = was-open b u (let i : d′ ≡ a = h in let j : d′ ≡ d = cc in ap (λ m. Pending m b u) (sym i ∙ j))
@@ -119,10 +120,11 @@ dvar-same i j e = cc
 -- ## Each name
 
 module _ {ce : ClassEnv} {fs es : List TyVar} {ns w w₁ w₂ bs b₁ mid b₃ p p′ : List ℕ} {top top₁ n nd : ℕ} (Z : Staged ce fs es ns w w₁ w₂ bs b₁ mid b₃ p p′ top top₁ n nd) where
-  -- The pending binders, those that stay with the binding, what was removed of them, and `sub_map`.
+  -- The pending binders.
   abbrev pub waiting : List Binder
   waiting = bindersFrom ns w bs 0 n
 
+  -- `sub_map`.
   abbrev pub whole : Map DictName Core
   whole = sub-map (removedFrom ns w₂ p p′ 0 (n - nd)) (keep (is-own fs es) (firsts [] waiting)) (dischargedIn ns w w₁ bs b₁ n) waiting
 
@@ -138,6 +140,7 @@ module _ {ce : ClassEnv} {fs es : List TyVar} {ns w w₁ w₂ bs b₁ mid b₃ p
   abbrev pub its : (i : ℕ) (l : i < n) → Binder
   its i l = binderOf ns w (row i l .d) (row i l .c) (row i l .t)
 
+  -- It stands there.
   pub its-at : (i : ℕ) (l : i < n) → nth waiting i ≡ some (its i l)
   its-at i l = nth-row ns w bs top 0 n i (λ j a b. Z .cut .all j (omega arith)) l (let z : 0 + i ≡ i = omega arith in rw z (row i l .is))
 

@@ -141,14 +141,15 @@ abbrev pub OwnRow : List ℕ → ℕ → Row → Type 0
 OwnRow w top (Pending d c t) = (d < 17_592_186_044_416) × ((c < 65_536) × Node w top t)
 OwnRow w top (Replaced d x) = Unit {0}
 
--- The first nd rows are deferred, those up to number n that are pending are kept, and e′ is the term with names replaced.
+-- The first nd rows are deferred, those up to number n that are pending are kept, and e′ is the term with names replaced. Four words
+-- are left over.
 pub record SettledIn (ns cl w w′ il ev od bs bs′ : List ℕ) (top left n t e e′ nd top′ left′ : ℕ) : Type 0 where
   pub term : Node w′ top′ e′
   pub most : nd ≤ n
   pub late : PendingRows w′ bs′ top′ nd
   pub own : (i : ℕ) → nd ≤ i → i < n → OwnRow w′ top′ (rowAt bs′ i)
   pub more : top ≤ top′
-  pub spent : 4 * top′ + 8 * left′ ≤ 4 * top + 8 * left
+  pub spent : 4 * top′ + 8 * left′ + 4 ≤ 4 * top + 8 * left
   pub down : left′ ≤ left
   pub is : (ce : ClassEnv) → Asked ns cl w top il (names-of (bindersIn ns w bs 0 n)) (core ns w e) ce
       → settledOut ns w ev od bs n t e left ce ≡ done (bindersIn ns w′ bs′ nd n, core ns w′ e′, bindersIn ns w′ bs′ 0 nd) left′
