@@ -6,7 +6,7 @@ use Prim.Native.Nat.{ℕ, _<_}
 use Rattle.meaning.specs.Base.{nth}
 use Rattle.meaning.specs.Ast.{Name, Expr, eabs, evar, elet}
 use Rattle.names.specs.Names.{nameOf}
-use Rattle.sections.specs.Parts.{upto}
+use Rattle.reader.specs.Placing.{upto}
 use Rattle.views.specs.Numbers.{Named}
 use Rattle.views.specs.ExprViews.{ExprAs, IsExpr}
 use Rattle.views.specs.declared.ExprNode.{ExprNode}
