@@ -5,7 +5,7 @@ use Prim.Native.Nat.{ℕ, zero, suc, _+_, _*_, _<_, _≤_}
 use native.Mathlib.Omega.{arith}
 use native.Mathlib.Decide.{decLt}
 use lib.ListN.{length}
-use Rattle.meaning.specs.Ast.{Ty, Tys, size, sizes}
+use Rattle.meaning.specs.Ast.{Ty, size, sizes}
 use Rattle.ast.specs.Table.{Table}
 use Rattle.views.specs.Numbers.{numberAt}
 use Rattle.views.specs.TypeViews.{typeNodeAt}

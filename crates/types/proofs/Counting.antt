@@ -1,18 +1,18 @@
 -- Laws of sizes: what a type's and a list's size is, and a law for each way out of counting.
 use mathlib.Core.Path.{_≡_, refl, ap, sym, _∙_}
 use mathlib.Core.List.{List}
-use Prim.Native.Nat.{ℕ, zero, suc, _+_, _*_, _-_, _<_, _≤_}
+use Prim.Native.Nat.{ℕ, zero, suc, _+_, _-_, _<_, _≤_}
 use native.Mathlib.Omega.{arith}
 use lib.ListN.{length}
-use Rattle.meaning.specs.Ast.{Ty, Tys, var, con, arrow, nil, _◂_, size, sizes}
+use Rattle.meaning.specs.Ast.{Ty, var, con, arrow, nil, _◂_, size, sizes}
 use Rattle.views.specs.Numbers.{numberAt}
-use Rattle.views.specs.TypeViews.{Small, IsType}
+use Rattle.views.specs.TypeViews.{IsType}
 use Rattle.views.specs.declared.TypeNode.{TypeNode}
 use Rattle.views.specs.declared.TypeNode.the-variants.{Var, Con, Arrow, Nothing}
 use Rattle.types.specs.declared.Sized.{Sized}
 use Rattle.types.specs.declared.Sized.the-variants.{Is, Over}
 use Rattle.types.specs.Types.{argsOf, typeOf, partOf, partsOf}
-use Rattle.types.specs.Sizes.{SizedAs, Measured}
+use Rattle.types.specs.Sizes.{Measured}
 use Rattle.types.proofs.Decode.{type-var, type-con, type-arrow, type-nothing, part-is, part-none}
 
 -- A type has a node.
@@ -80,6 +80,7 @@ keeps M e = counted M e .1
 pub type-over : (bytes ix : List ℕ) (i limit : ℕ) → limit ≡ 0 → Measured (λ (ns : List ℕ). size (typeOf bytes ns ix i)) limit Over
 type-over bytes ix i limit e = record { is = λ ns. let s = size-some (typeOf bytes ns ix i) in omega arith }
 
+-- The same of a part.
 pub part-over : (bytes ix : List ℕ) (i j limit : ℕ) → limit ≡ 0 → Measured (λ (ns : List ℕ). size (partOf bytes ns ix i j)) limit Over
 part-over bytes ix i j limit e = record { is = λ ns. let s = size-some (partOf bytes ns ix i j) in omega arith }
 

@@ -7,12 +7,11 @@ use Prim.Native.Nat.{ℕ, zero, suc, _+_, _*_, _<_, _≤_}
 use native.Mathlib.Omega.{arith}
 use lib.ListN.{getD}
 use Rattle.meaning.specs.Base.{if, ltb, nth, count}
-use Rattle.meaning.specs.Ast.{Name, named, Ty, Tys, var, con, arrow, nil, _◂_}
+use Rattle.meaning.specs.Ast.{Name, named, Ty, var, con, arrow}
 use Rattle.meaning.specs.File as M
-use Rattle.theorems.proofs.Tests.{ltb-of, ltb-true, ltb-false}
+use Rattle.theorems.proofs.Tests.{ltb-of, ltb-true}
 use Rattle.names.specs.Names.{nameOf}
 use Rattle.reader.specs.Placing.{upto}
-use Rattle.nametable.specs.Tables.{NameKnown}
 use Rattle.views.specs.Numbers.{numberAt, Named, NamedAll}
 use Rattle.views.specs.TypeViews.{typeNodeAt, TypeAs, IsType}
 use Rattle.views.specs.declared.TypeNode.{TypeNode}

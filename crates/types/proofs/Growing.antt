@@ -1,12 +1,12 @@
 -- Answers that write a node behind those of the parts.
-use mathlib.Core.Path.{_≡_, refl, ap, sym, _∙_}
+use mathlib.Core.Path.{_≡_, ap, sym, _∙_}
 use mathlib.Core.List.{List, []}
-use Prim.Native.Nat.{ℕ, suc, _+_, _*_, _-_, _^_, _<_, _≤_}
+use Prim.Native.Nat.{ℕ, _+_, _*_, _-_, _^_, _<_, _≤_}
 use native.Mathlib.Omega.{arith}
 use lib.ListN.{length}
-use Rattle.meaning.specs.Ast.{Ty, Tys, con, arrow, _◂_, size, sizes}
+use Rattle.meaning.specs.Ast.{con, arrow, size, sizes}
 use Rattle.names.specs.Names.{first-node, nameOf}
-use Rattle.ast.specs.Table.{tree, list, Node, pushed}
+use Rattle.ast.specs.Table.{tree, list, pushed}
 use Rattle.ast.proofs.Laws.{node-more, kept-tree}
 use Rattle.ast.proofs.NewNode.{push-con, push-arrow, push-cons}
 use Rattle.pairs.specs.Pairs.{Stands}

@@ -1,14 +1,12 @@
 -- Room for the parts of a type, and answers that write no node.
 use mathlib.Core.Path.{_≡_, refl, ap, sym, _∙_}
 use mathlib.Core.List.{List}
-use Prim.Native.Nat.{ℕ, suc, _+_, _*_, _-_, _<_, _≤_}
+use Prim.Native.Nat.{ℕ, _+_, _*_, _<_, _≤_}
 use native.Mathlib.Omega.{arith}
-use lib.ListN.{length}
-use Rattle.meaning.specs.Base.{if, ltb}
-use Rattle.meaning.specs.Ast.{named, Ty, Tys, var, con, nil, size, sizes}
+use Rattle.meaning.specs.Ast.{named, Ty, var, con, nil, size, sizes}
 use Rattle.theorems.proofs.Tests.{ltb-of}
 use Rattle.names.specs.Names.{first-fresh, first-nullary, first-node, kindOf, nameOf, tyvarOf}
-use Rattle.ast.specs.Table.{tree, list, Table, Node}
+use Rattle.ast.specs.Table.{tree, list, Table}
 use Rattle.ast.proofs.Laws.{low-node, low-list, low-var, low-con}
 use Rattle.pairs.proofs.Frames.{stands-refl}
 use Rattle.views.specs.Numbers.{numberAt}
@@ -16,7 +14,7 @@ use Rattle.views.specs.TypeViews.{IsType}
 use Rattle.views.specs.declared.TypeNode.{TypeNode}
 use Rattle.views.specs.declared.TypeNode.the-variants.{Var, Con, Arrow, Nothing}
 use Rattle.types.specs.declared.Taken.{Taken}
-use Rattle.types.specs.Types.{rowOf, no-type, typeOf, partOf, partsOf}
+use Rattle.types.specs.Types.{rowOf, typeOf, partOf, partsOf}
 use Rattle.types.specs.Taking.{Room, Takes}
 use Rattle.types.proofs.Decode.{type-var, type-con, type-nothing, part-is, part-none, row-small}
 use Rattle.types.proofs.Counting.{size-some, parts-nil, sizes-cons, con-size, arrow-size}

@@ -10,5 +10,6 @@ abbrev pub SizedAs : (List ℕ → ℕ) → ℕ → Sized → Type 0
 SizedAs size limit (Is n) = ((ns : List ℕ) → size ns ≡ n) × (n ≤ limit)
 SizedAs size limit Over = (ns : List ℕ) → limit < size ns
 
+-- As a record, so that the size and the limit are found from it.
 pub record Measured (size : List ℕ → ℕ) (limit : ℕ) (r : Sized) : Type 0 where
   pub is : SizedAs size limit r

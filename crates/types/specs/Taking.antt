@@ -12,8 +12,8 @@ pub record Room (w : List ℕ) (top : ℕ) (size : List ℕ → ℕ) : Type 0 wh
   pub table : Table w top
   pub room : (ns : List ℕ) → 4 * top + 8 * size ns ≤ length w
 
--- The words became w′: what is older stands, and the answer's word is read as u over all names. So many words that its
--- nodes are worth stay free.
+-- The words became w′: what is older stands, and the answer's word is read as u over all names. Of 8 words for each of
+-- its nodes, so many stay free.
 pub record Takes {A : Type 0} (read : List ℕ → List ℕ → ℕ → A) (size : A → ℕ) (free : ℕ) (w w′ : List ℕ) (top : ℕ) (u : List ℕ → A) (r : Taken) : Type 0 where
   pub node : Node w′ (r .top) (r .word)
   pub stands : Stands w w′ top (4 * r .top)

@@ -1,5 +1,5 @@
 -- Types: what the code reads at a place is what the definition reads there.
-use mathlib.Core.Path.{_≡_, refl, ap, sym, _∙_, subst}
+use mathlib.Core.Path.{_≡_, refl, ap, _∙_, subst}
 use mathlib.Core.List.{List}
 use Prim.Native.Nat.{ℕ, zero, suc, _+_, _<_, _≤_}
 use native.Mathlib.Omega.{arith}
@@ -15,7 +15,7 @@ use Rattle.reader.proofs.Counts.{count-cut, count-over, count-is as counts-so}
 use Rattle.reader.specs.Placing.{upto}
 use Rattle.views.specs.declared.TypeNode.{TypeNode}
 use Rattle.views.specs.declared.TypeNode.the-variants.{Var, Con, Arrow, Nothing}
-use Rattle.views.specs.Numbers.{numberAt, countAt, CountRead, NamedAll}
+use Rattle.views.specs.Numbers.{numberAt, CountRead, NamedAll}
 use Rattle.views.specs.TypeViews.{taggedNode, typeNode, typeNodeAt, TypeRead, IsType}
 use Rattle.views.proofs.Onward.{read-is, by-number, went, one-of-moves, variable-moves, tag-chose, tag-below, tag-there}
 use Rattle.views.proofs.Listings.{count-is, count-none, numbers-went}
