@@ -3,3 +3,5 @@ pub mod Smallness
 pub mod QualWays
 pub mod NameWays
 pub mod TestWays
+pub mod Kept
+pub mod FromWays
