@@ -68,7 +68,7 @@ part-asked {w = w} {bs = bs} {top = top} {nd = nd} {n = n} R =
     }
 
 -- The binders of the part.
-part-binders : (ns w bs : List ℕ) (nd n : ℕ) → nd ≤ n → 3 * n ≤ length bs → bindersIn ns w (take (length bs - 3 * nd) (drop (3 * nd) bs)) 0 (n - nd) ≡ bindersIn ns w bs nd n
+pub part-binders : (ns w bs : List ℕ) (nd n : ℕ) → nd ≤ n → 3 * n ≤ length bs → bindersIn ns w (take (length bs - 3 * nd) (drop (3 * nd) bs)) 0 (n - nd) ≡ bindersIn ns w bs nd n
 part-binders ns w bs nd n m l =
     let z : n - nd - 0 ≡ n - nd = omega arith in
     ap (bindersFrom ns w (take (length bs - 3 * nd) (drop (3 * nd) bs)) 0) z

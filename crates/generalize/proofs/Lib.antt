@@ -5,3 +5,4 @@ pub mod NameWays
 pub mod TestWays
 pub mod Kept
 pub mod FromWays
+pub mod FinalWays

@@ -128,6 +128,12 @@ pub record GivesGeneralized (ns cl w w′ il ev od bs bs′ : List ℕ) (top lef
 
 -- ## `finalize_expr`
 
+-- Canonical names of the rows from number nd up to number n.
+pub record GivesNamesFrom (ns w w′ ev od bs : List ℕ) (top left sp nd n t e : ℕ) (r : Named) : Type 0 where
+  pub gives : GivesNamed (Unnamed ns (qual (preds-of (bindersIn ns w bs nd n)) (tree ns w t)) (envOf ns w ev od)) ns w w′ top left sp
+      (canonical-scheme-and-core (bound (qual (preds-of (bindersIn ns w bs nd n)) (tree ns w t)) (envOf ns w ev od)) (qual (preds-of (bindersIn ns w bs nd n)) (tree ns w t))
+      (abstracted (bindersIn ns w bs nd n) (core ns w e)) left) r
+
 -- What the meaning says.
 abbrev pub finalizedOut : List ℕ → List ℕ → List ℕ → ℕ → ℕ → ℕ → ℕ → ClassEnv → Out (Qual × Core)
 finalizedOut ns w bs n t e left ce = finalize-expr ce (tree ns w t) (bindersIn ns w bs 0 n) (core ns w e) left

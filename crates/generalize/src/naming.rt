@@ -16,12 +16,6 @@ pub enum Named {
     Refused(Refusal, usize, usize),
 }
 
-// The predicates, the type and the term, the first free node and the steps left; or a refusal with both.
-pub enum Paired {
-    Done(usize, usize, usize, usize, usize),
-    Refused(Refusal, usize, usize),
-}
-
 // How deep a type may be.
 const DEPTH: usize = 256;
 
