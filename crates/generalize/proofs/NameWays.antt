@@ -108,130 +108,130 @@ module _ {ns w ev od ls bs : List ℕ} {top left sp n t e : ℕ} (R : ReadyNames
 
   module _ {w₁ bs₁ : List ℕ} {r₁ : AppliedQual} (G : GivesLettered ns w w₁ ls bs bs₁ top left sp n t r₁) where
     -- The qualified type is refused.
-   pub named-refused : {x : Refusal} {m l : ℕ} → r₁ ≡ Refused x m l → GivesNames ns w w₁ ev od bs top left sp n t e (Named-Refused x m l)
-   named-refused h = let g = rw h at (G .answer) in
-      record { stands = G .stands; answer = λ U. scheme-refused _ _ _ (g _ (C .renames (U .built) (U .type))) }
+    pub named-refused : {x : Refusal} {m l : ℕ} → r₁ ≡ Refused x m l → GivesNames ns w w₁ ev od bs top left sp n t e (Named-Refused x m l)
+    named-refused h = let g = rw h at (G .answer) in
+        record { stands = G .stands; answer = λ U. scheme-refused _ _ _ (g _ (C .renames (U .built) (U .type))) }
 
-   module _ {ps u m l : ℕ} (h : r₁ ≡ Done ps u m l) where
-    -- The renamed type.
-    qual-made : NamesQual ns w w₁ ls bs bs₁ top left n t ps u m l
-    qual-made = rw h at (G .answer)
+    module _ {ps u m l : ℕ} (h : r₁ ≡ Done ps u m l) where
+      -- The renamed type.
+      qual-made : NamesQual ns w w₁ ls bs bs₁ top left n t ps u m l
+      qual-made = rw h at (G .answer)
 
-    -- The table has grown.
-    pub qual-more : top ≤ m
-    qual-more = qual-made .more
+      -- The table has grown.
+      pub qual-more : top ≤ m
+      qual-more = qual-made .more
 
-    -- The environment is the same.
-    same-env : envOf ns w₁ ev od ≡ envOf ns w ev od
-    same-env = env-kept (R .scope) (G .stands .low)
+      -- The environment is the same.
+      same-env : envOf ns w₁ ev od ≡ envOf ns w ev od
+      same-env = env-kept (R .scope) (G .stands .low)
 
-    -- There is room for a cell for each bound variable.
-    vars-room : 4 * m + 8 * l + 4 * count (bound (listQual ns w₁ ps u) (envOf ns w₁ ev od)) ≤ 4 * top + 8 * left
-    vars-room = let a = qual-made .spent in let b = bound-few (listQual ns w₁ ps u) (envOf ns w₁ ev od) in omega arith
+      -- There is room for a cell for each bound variable.
+      vars-room : 4 * m + 8 * l + 4 * count (bound (listQual ns w₁ ps u) (envOf ns w₁ ev od)) ≤ 4 * top + 8 * left
+      vars-room = let a = qual-made .spent in let b = bound-few (listQual ns w₁ ps u) (envOf ns w₁ ev od) in omega arith
 
-    -- What `sorted_vars` is asked.
-    pub vars-asked : length w₁ ≡ length w → ReadyVars ns w₁ ev od m ps u
-    vars-asked len =
-        let Q = qual-made in let a = vars-room in let r = R .room in let f = R .fits in
-        record {
-          type = record { env = record { names = R .names; scope = scope-kept (R .scope) (G .stands .low) (Q .more) (Q .type .table) }; node = Q .type };
-          preds = Q .preds;
-          room = omega arith;
-        }
-
-    module _ {w₂ : List ℕ} {v m₁ : ℕ} (S : Sorted ns w₁ w₂ (listQual ns w₁ ps u) (envOf ns w₁ ev od) m v m₁) where
-      -- The table has grown again, and so has what is left.
-      pub vars-more : (m ≤ m₁) × (4 * m₁ + 8 * l ≤ 4 * top + 8 * left)
-      vars-more = let a = S .grows in let s = vars-room in (omega arith, omega arith)
-
-      -- The frame of both.
-      vars-stand : Stands w w₂ top sp
-      vars-stand = let a = vars-more .1 in let r = R .room in stands-then (G .stands) (stands-up (S .stands) (omega arith)) (qual-made .more)
-
-      -- The term is still there.
-      pub term-asked : Node w₂ m₁ e
-      term-asked = let a = vars-more .0 in let b = qual-more in node-more (S .node .table) (omega arith) E
-
-      -- What `rename_abstracted` is asked.
-      pub rows-asked : length w₂ ≡ length w → rows.ReadyRows ns w₂ bs₁ ls m₁ l n
-      rows-asked len =
-          let Q = qual-made in let a = vars-more .1 in let r = R .room in let f = R .fits in
+      -- What `sorted_vars` is asked.
+      pub vars-asked : length w₁ ≡ length w → ReadyVars ns w₁ ev od m ps u
+      vars-asked len =
+          let Q = qual-made in let a = vars-room in let r = R .room in let f = R .fits in
           record {
-            names = R .names;
-            table = S .node .table;
-            rows = own-binders (own-kept (S .node .table) (vars-more .0) (Q .rows));
-            small = own-small (Q .rows);
-            few = C .few;
+            type = record { env = record { names = R .names; scope = scope-kept (R .scope) (G .stands .low) (Q .more) (Q .type .table) }; node = Q .type };
+            preds = Q .preds;
             room = omega arith;
           }
 
-      -- What the meaning does to the term is what the code does.
-      term-same : BuiltIns ns → MadeQual (rowsQual ns w bs n t)
-          → apply-subst-to-core (canonical (rowsQual ns w bs n t) (envOf ns w ev od)) (abstracted (bindersIn ns w bs 0 n) (core ns w e)) l
-          ≡ apply-core-in 256 (canonical (rowsQual ns w bs n t) (envOf ns w ev od)) (abstracted (bindersIn ns w₂ bs₁ 0 n) (core ns w₂ e)) l
-      term-same B M =
-          let Q = qual-made in
-          let D : bindersIn ns w₂ bs₁ 0 n ≡ bindersIn ns w₁ bs₁ 0 n = kept-rows ns bs₁ (S .stands .low) 0 (n - 0) (λ a p q. own-binders (Q .rows) .types a (omega arith)) in
-          let F : core ns w₂ e ≡ core ns w e = kept-core ns (vars-stand .low) E in
-          sym (rw (D, F) (Q .again _ (C .renames B M) (new-stay M) (core ns w e) l))
+      module _ {w₂ : List ℕ} {v m₁ : ℕ} (S : Sorted ns w₁ w₂ (listQual ns w₁ ps u) (envOf ns w₁ ev od) m v m₁) where
+        -- The table has grown again, and so has what is left.
+        pub vars-more : (m ≤ m₁) × (4 * m₁ + 8 * l ≤ 4 * top + 8 * left)
+        vars-more = let a = S .grows in let s = vars-room in (omega arith, omega arith)
 
-      module _ {w₃ : List ℕ} {r₃ : Applied} (A : letter.GivesLettered core 4 ns ls w₂ w₃ m₁ l (λ s. apply-core-in 256 s (abstracted (bindersIn ns w₂ bs₁ 0 n) (core ns w₂ e)) l) r₃) where
-        -- All words that stand.
-        all-stand : Stands w w₃ top sp
-        all-stand = let a = vars-more .1 in let b = vars-more .0 in let c = qual-more in let r = R .room in stands-then vars-stand (stands-up (A .stands) (omega arith)) (omega arith)
+        -- The frame of both.
+        vars-stand : Stands w w₂ top sp
+        vars-stand = let a = vars-more .1 in let r = R .room in stands-then (G .stands) (stands-up (S .stands) (omega arith)) (qual-made .more)
 
-        -- The term is refused.
-        pub term-refused : {x : Refusal} {m₃ l₃ : ℕ} → r₃ ≡ Not-made x m₃ l₃ → GivesNames ns w w₃ ev od bs top left sp n t e (Named-Refused x m₃ l₃)
-        term-refused {x} {m₃} {l₃} i =
-            let g = rw i at (A .answer) in let a = vars-more .0 in let b = qual-more in
+        -- The term is still there.
+        pub term-asked : Node w₂ m₁ e
+        term-asked = let a = vars-more .0 in let b = qual-more in node-more (S .node .table) (omega arith) E
+
+        -- What `rename_abstracted` is asked.
+        pub rows-asked : length w₂ ≡ length w → rows.ReadyRows ns w₂ bs₁ ls m₁ l n
+        rows-asked len =
+            let Q = qual-made in let a = vars-more .1 in let r = R .room in let f = R .fits in
             record {
-              stands = all-stand;
-              answer = λ U. refuse-on (core-after (bound (rowsQual ns w bs n t) (envOf ns w ev od)) (rowsQual ns w bs n t) (listQual ns w₁ ps u) (abstracted (bindersIn ns w bs 0 n) (core ns w e)) left l (qual-made .is _ (C .renames (U .built) (U .type))))
-                  (refuse-same (term-same (U .built) (U .type)) (g _ (renames-any ns w ls _ [] (C .renames (U .built) (U .type)))) (omega arith) (omega arith))
-                  b (qual-made .down);
+              names = R .names;
+              table = S .node .table;
+              rows = own-binders (own-kept (S .node .table) (vars-more .0) (Q .rows));
+              small = own-small (Q .rows);
+              few = C .few;
+              room = omega arith;
             }
 
-        -- All have their names.
-        pub all-named : {f m₃ l₃ : ℕ} → r₃ ≡ Made f m₃ l₃ → GivesNames ns w w₃ ev od bs top left sp n t e (Named-Done v ps u f m₃ l₃)
-        all-named {f} {m₃} {l₃} i =
-            let g = rw i at (A .answer) in
+        -- What the meaning does to the term is what the code does.
+        term-same : BuiltIns ns → MadeQual (rowsQual ns w bs n t)
+            → apply-subst-to-core (canonical (rowsQual ns w bs n t) (envOf ns w ev od)) (abstracted (bindersIn ns w bs 0 n) (core ns w e)) l
+            ≡ apply-core-in 256 (canonical (rowsQual ns w bs n t) (envOf ns w ev od)) (abstracted (bindersIn ns w₂ bs₁ 0 n) (core ns w₂ e)) l
+        term-same B M =
             let Q = qual-made in
-            let a = vars-more .0 in
-            let b = vars-more .1 in
-            let c = qual-more in
-            let d = g .more in
-            let y = g .spent in
-            let z = g .down in
-            let o = Q .down in
-            let T = S .node .table in
-            let X : schemeOf ns w₃ v ps u ≡ forall (sort-by tyvar-before (bound (listQual ns w₁ ps u) (envOf ns w ev od))) (listQual ns w₁ ps u) =
-                kept-scheme ns (A .stands .low) (S .node) (node-more T a (Q .preds)) (node-more T a (Q .type))
-                ∙ rw (S .is, kept-preds ns (S .stands .low) (Q .preds), kept-tree ns (S .stands .low) (Q .type), same-env) refl in
-            record {
-              stands = all-stand;
-              answer = record {
-                held = record {
-                  vars = node-more (g .node .table) d (S .node);
-                  preds = node-more (g .node .table) (omega arith) (Q .preds);
-                  type = node-more (g .node .table) (omega arith) (Q .type);
-                  fine = subst (Fine ns) (sym X) (bound-fine ns (listQual ns w₁ ps u) (envOf ns w ev od) (Q .small));
+            let D : bindersIn ns w₂ bs₁ 0 n ≡ bindersIn ns w₁ bs₁ 0 n = kept-rows ns bs₁ (S .stands .low) 0 (n - 0) (λ a p q. own-binders (Q .rows) .types a (omega arith)) in
+            let F : core ns w₂ e ≡ core ns w e = kept-core ns (vars-stand .low) E in
+            sym (rw (D, F) (Q .again _ (C .renames B M) (new-stay M) (core ns w e) l))
+
+        module _ {w₃ : List ℕ} {r₃ : Applied} (A : letter.GivesLettered core 4 ns ls w₂ w₃ m₁ l (λ s. apply-core-in 256 s (abstracted (bindersIn ns w₂ bs₁ 0 n) (core ns w₂ e)) l) r₃) where
+          -- All words that stand.
+          all-stand : Stands w w₃ top sp
+          all-stand = let a = vars-more .1 in let b = vars-more .0 in let c = qual-more in let r = R .room in stands-then vars-stand (stands-up (A .stands) (omega arith)) (omega arith)
+
+          -- The term is refused.
+          pub term-refused : {x : Refusal} {m₃ l₃ : ℕ} → r₃ ≡ Not-made x m₃ l₃ → GivesNames ns w w₃ ev od bs top left sp n t e (Named-Refused x m₃ l₃)
+          term-refused {x} {m₃} {l₃} i =
+              let g = rw i at (A .answer) in let a = vars-more .0 in let b = qual-more in
+              record {
+                stands = all-stand;
+                answer = λ U. refuse-on (core-after (bound (rowsQual ns w bs n t) (envOf ns w ev od)) (rowsQual ns w bs n t) (listQual ns w₁ ps u) (abstracted (bindersIn ns w bs 0 n) (core ns w e)) left l (qual-made .is _ (C .renames (U .built) (U .type))))
+                    (refuse-same (term-same (U .built) (U .type)) (g _ (renames-any ns w ls _ [] (C .renames (U .built) (U .type)))) (omega arith) (omega arith))
+                    b (qual-made .down);
+              }
+
+          -- All have their names.
+          pub all-named : {f m₃ l₃ : ℕ} → r₃ ≡ Made f m₃ l₃ → GivesNames ns w w₃ ev od bs top left sp n t e (Named-Done v ps u f m₃ l₃)
+          all-named {f} {m₃} {l₃} i =
+              let g = rw i at (A .answer) in
+              let Q = qual-made in
+              let a = vars-more .0 in
+              let b = vars-more .1 in
+              let c = qual-more in
+              let d = g .more in
+              let y = g .spent in
+              let z = g .down in
+              let o = Q .down in
+              let T = S .node .table in
+              let X : schemeOf ns w₃ v ps u ≡ forall (sort-by tyvar-before (bound (listQual ns w₁ ps u) (envOf ns w ev od))) (listQual ns w₁ ps u) =
+              kept-scheme ns (A .stands .low) (S .node) (node-more T a (Q .preds)) (node-more T a (Q .type))
+              ∙ rw (S .is, kept-preds ns (S .stands .low) (Q .preds), kept-tree ns (S .stands .low) (Q .type), same-env) refl in
+              record {
+                stands = all-stand;
+                answer = record {
+                  held = record {
+                    vars = node-more (g .node .table) d (S .node);
+                    preds = node-more (g .node .table) (omega arith) (Q .preds);
+                    type = node-more (g .node .table) (omega arith) (Q .type);
+                    fine = subst (Fine ns) (sym X) (bound-fine ns (listQual ns w₁ ps u) (envOf ns w ev od) (Q .small));
+                  };
+                  term = g .node;
+                  more = omega arith;
+                  spent = omega arith;
+                  down = omega arith;
+                  is = λ U. then-done (core ns w₃ f) l₃ (core-after (bound (rowsQual ns w bs n t) (envOf ns w ev od)) (rowsQual ns w bs n t) (listQual ns w₁ ps u) (abstracted (bindersIn ns w bs 0 n) (core ns w e)) left l (Q .is _ (C .renames (U .built) (U .type))))
+                      (term-same (U .built) (U .type) ∙ g .is _ (renames-any ns w ls _ [] (C .renames (U .built) (U .type))))
+                      ∙ ap (λ (s : Scheme). done (s, core ns w₃ f) l₃) (sym (X ∙ ap (λ (vs : List TyVar). forall vs (listQual ns w₁ ps u)) (names-are (Q .is _ (C .renames (U .built) (U .type))) (U .type)
+                      (env-vars-made (envOf ns w ev od) (in-order (R .scope .order) w ev 0 (length od) (omega arith)) (U .schemes)))));
                 };
-                term = g .node;
-                more = omega arith;
-                spent = omega arith;
-                down = omega arith;
-                is = λ U. then-done (core ns w₃ f) l₃ (core-after (bound (rowsQual ns w bs n t) (envOf ns w ev od)) (rowsQual ns w bs n t) (listQual ns w₁ ps u) (abstracted (bindersIn ns w bs 0 n) (core ns w e)) left l (Q .is _ (C .renames (U .built) (U .type))))
-                    (term-same (U .built) (U .type) ∙ g .is _ (renames-any ns w ls _ [] (C .renames (U .built) (U .type))))
-                    ∙ ap (λ (s : Scheme). done (s, core ns w₃ f) l₃) (sym (X ∙ ap (λ (vs : List TyVar). forall vs (listQual ns w₁ ps u)) (names-are (Q .is _ (C .renames (U .built) (U .type))) (U .type)
-                    (env-vars-made (envOf ns w ev od) (in-order (R .scope .order) w ev 0 (length od) (omega arith)) (U .schemes)))));
-              };
-            }
-          where
-            names-are : apply-qual (canonical (rowsQual ns w bs n t) (envOf ns w ev od)) (rowsQual ns w bs n t) left ≡ done (listQual ns w₁ ps u) l
-                → MadeQual (rowsQual ns w bs n t) → MadeVars (env-ftv (envOf ns w ev od))
-                → sort-by tyvar-before (bound (listQual ns w₁ ps u) (envOf ns w ev od)) ≡ sort-by tyvar-before (images (canonical-renamer (bound (rowsQual ns w bs n t) (envOf ns w ev od))))
-            names-are q M F =
-                let s = canonical (rowsQual ns w bs n t) (envOf ns w ev od) in
-                let p : listQual ns w₁ ps u ≡ qual (sub-preds (look s) (rowsQual ns w bs n t .preds)) (sub (look s) (rowsQual ns w bs n t .ty)) =
-                    subst (λ (o : Out Qual). Says (λ q₁. q₁ ≡ qual (sub-preds (look s) (rowsQual ns w bs n t .preds)) (sub (look s) (rowsQual ns w bs n t .ty))) Limit o) q (qual-says s (rowsQual ns w bs n t) left) in
-                ap (λ (q₁ : Qual). sort-by tyvar-before (bound q₁ (envOf ns w ev od))) p ∙ new-names (rowsQual ns w bs n t) (envOf ns w ev od) M F
+              }
+            where
+              names-are : apply-qual (canonical (rowsQual ns w bs n t) (envOf ns w ev od)) (rowsQual ns w bs n t) left ≡ done (listQual ns w₁ ps u) l
+                  → MadeQual (rowsQual ns w bs n t) → MadeVars (env-ftv (envOf ns w ev od))
+                  → sort-by tyvar-before (bound (listQual ns w₁ ps u) (envOf ns w ev od)) ≡ sort-by tyvar-before (images (canonical-renamer (bound (rowsQual ns w bs n t) (envOf ns w ev od))))
+              names-are q M F =
+                  let s = canonical (rowsQual ns w bs n t) (envOf ns w ev od) in
+                  let p : listQual ns w₁ ps u ≡ qual (sub-preds (look s) (rowsQual ns w bs n t .preds)) (sub (look s) (rowsQual ns w bs n t .ty)) =
+                  subst (λ (o : Out Qual). Says (λ q₁. q₁ ≡ qual (sub-preds (look s) (rowsQual ns w bs n t .preds)) (sub (look s) (rowsQual ns w bs n t .ty))) Limit o) q (qual-says s (rowsQual ns w bs n t) left) in
+                  ap (λ (q₁ : Qual). sort-by tyvar-before (bound q₁ (envOf ns w ev od))) p ∙ new-names (rowsQual ns w bs n t) (envOf ns w ev od) M F

@@ -148,7 +148,7 @@ tests-same fs es (p ∷ ps) h = one (p .ty) (h .0) (tests-same fs es ps (h .1))
     one (arrow a b) e ih = absurd (false≢true e)
 
 -- ## `conclude`
-module _ {ns w ev od bs : List ℕ} {top n t : ℕ} {k : Clear} (left sp e : ℕ)
+module _ (ns w ev od bs : List ℕ) (top n t left sp e : ℕ) {k : Clear}
     (T : Tests (ftv-type (tree ns w t) []) (env-ftv (envOf ns w ev od)) ns w top (preds-of (bindersIn ns w bs 0 n)) k) where
   -- None is ambiguous: what is named is the answer.
   pub conclude-named : {w′ : List ℕ} {r : Named} → k ≡ All → GivesNames ns w w′ ev od bs top left sp n t e r → GivesConcluded ns w w′ ev od bs top left sp n t e r

@@ -2,30 +2,32 @@
 use mathlib.Core.Path.{_≡_}
 use mathlib.Core.Bool.{true}
 use mathlib.Core.List.{List, [], _∷_}
-use Prim.Native.Nat.{ℕ, _+_, _*_, _≤_}
+use Prim.Native.Nat.{ℕ, _+_, _*_, _<_, _≤_}
 use lib.ListN.{length}
 use Rattle.meaning.specs.Base.{first}
-use Rattle.meaning.specs.Ast.{Ty, Pred, Qual, Scheme, Core}
+use Rattle.meaning.specs.Ast.{Ty, Pred, Qual, qual, Scheme, Core, Binder}
 use Rattle.meaning.specs.Budget.{Out, done, after}
 use Rattle.meaning.specs.Subst.{ftv-type}
 use Rattle.meaning.specs.Classes.{ClassEnv}
 use Rattle.meaning.specs.Reduce.{is-head-normal}
-use Rattle.meaning.specs.Generalize.{Pending, Env, env-ftv, preds-of, is-ambiguous, unless-ambiguous, generalize-binding, finalize-expr}
+use Rattle.meaning.specs.Cores.{canonical-scheme-and-core}
+use Rattle.meaning.specs.Generalize.{Pending, Env, env-ftv, preds-of, abstracted, is-ambiguous, unless-ambiguous, generalize-binding, finalize-expr}
 use Rattle.theorems.proofs.Bound.{names-of}
 use Rattle.theorems.proofs.Made.{MadeTy, MadePending, MadeEnv}
+use Rattle.names.specs.Names.{Names}
 use Rattle.ast.specs.Table.{tree, Node}
 use Rattle.errors.specs.Refusals.{Refuses}
 use Rattle.pairs.specs.Pairs.{Stands}
 use Rattle.subst.specs.Preds.{predsOf}
 use Rattle.subst.specs.Schemes.{schemeOf}
-use Rattle.scope.specs.Scope.{envOf, Smalls, Held}
+use Rattle.scope.specs.Scope.{envOf, Scope, Smalls, Held}
 use Rattle.cores.specs.Terms.{core}
-use Rattle.supers.specs.Rows.{bindersIn}
+use Rattle.supers.specs.Rows.{rowAt, bindersIn}
 use Rattle.rows.specs.BuiltIns.{BuiltIns}
 use Rattle.pending.specs.Rows.{PendingRows}
-use Rattle.canonical.specs.Named.{rowsQual, listQual}
-use Rattle.settle.specs.Answers.{ReadySettle, Asked}
-use Rattle.generalize.specs.Naming.{Unnamed, namedOut, GivesNamed}
+use Rattle.canonical.specs.Named.{listQual, bound}
+use Rattle.settle.specs.Answers.{ReadySettle, Asked, OwnRow}
+use Rattle.generalize.specs.Naming.{Unnamed, GivesNamed}
 use Rattle.generalize.specs.declared.naming.Named.{Named}
 use Rattle.generalize.specs.declared.Generalized.{Generalized}
 use Rattle.generalize.specs.declared.Generalized.the-variants.{Done as Generalized-Done, Refused as Generalized-Refused}
@@ -52,19 +54,45 @@ abbrev pub AllVariable : List Pred → Type 0
 AllVariable [] = Unit {0}
 AllVariable (p ∷ ps) = (is-head-normal (p .ty) ≡ true) × AllVariable ps
 
--- What only the meaning knows of the first n rows and the type t.
-pub record Left (ns w ev od bs : List ℕ) (n t : ℕ) : Type 0 where
-  pub variables : AllVariable (preds-of (bindersIn ns w bs 0 n))
-  pub unnamed : Unnamed ns (rowsQual ns w bs n t) (envOf ns w ev od)
+-- What only the meaning knows of the binders that are left and the type.
+pub record LeftOver (ns : List ℕ) (env : Env) (ty : Ty) (kept : List Binder) : Type 0 where
+  pub variables : AllVariable (preds-of kept)
+  pub unnamed : Unnamed ns (qual (preds-of kept) ty) env
 
--- What the meaning says: the test, then canonical names.
+-- What the meaning says of them and of the term: the test, then canonical names.
+abbrev pub concludedFor : Env → Ty → List Binder → Core → ℕ → Out (Scheme × Core)
+concludedFor env ty kept c left =
+    after (unless-ambiguous (first (is-ambiguous (ftv-type ty []) (env-ftv env)) (preds-of kept)) left)
+    (λ _ k. canonical-scheme-and-core (bound (qual (preds-of kept) ty) env) (qual (preds-of kept) ty) (abstracted kept c) k)
+
+-- That of the first n rows and the type t.
+abbrev pub Left : List ℕ → List ℕ → List ℕ → List ℕ → List ℕ → ℕ → ℕ → Type 0
+Left ns w ev od bs n t = LeftOver ns (envOf ns w ev od) (tree ns w t) (bindersIn ns w bs 0 n)
+
+-- And of the term e.
 abbrev pub concludedOut : List ℕ → List ℕ → List ℕ → List ℕ → List ℕ → ℕ → ℕ → ℕ → ℕ → Out (Scheme × Core)
-concludedOut ns w ev od bs n t e left =
-    after (unless-ambiguous (first (is-ambiguous (ftv-type (tree ns w t) []) (env-ftv (envOf ns w ev od))) (preds-of (bindersIn ns w bs 0 n))) left) (λ _ k. namedOut ns w ev od bs n t e k)
+concludedOut ns w ev od bs n t e left = concludedFor (envOf ns w ev od) (tree ns w t) (bindersIn ns w bs 0 n) (core ns w e) left
 
 -- The words became w′: table and stack stand.
 abbrev pub GivesConcluded : List ℕ → List ℕ → List ℕ → List ℕ → List ℕ → List ℕ → ℕ → ℕ → ℕ → ℕ → ℕ → ℕ → Named → Type 0
 GivesConcluded ns w w′ ev od bs top left sp n t e r = GivesNamed (Left ns w ev od bs n t) ns w w′ top left sp (concludedOut ns w ev od bs n t e left) r
+
+-- An environment, rows of which those from number nd up to number n are of one's own, and a type t.
+pub record ReadyFrom (ns w ev od bs : List ℕ) (top left sp nd n t : ℕ) : Type 0 where
+  pub names : Names ns
+  pub scope : Scope ns w ev od top
+  pub most : nd ≤ n
+  pub there : 3 * n ≤ length bs
+  pub own : (i : ℕ) → nd ≤ i → i < n → OwnRow w top (rowAt bs i)
+  pub type : Node w top t
+  pub room : 4 * top + 8 * left ≤ sp
+  pub fits : sp ≤ length w
+
+-- The same of the rows from number nd up to number n; those before them stand.
+pub record GivesFrom (ns w w′ ev od bs bs′ : List ℕ) (top left sp nd n t e : ℕ) (r : Named) : Type 0 where
+  pub before : (j : ℕ) → j < nd → rowAt bs′ j ≡ rowAt bs j
+  pub gives : GivesNamed (LeftOver ns (envOf ns w ev od) (tree ns w t) (bindersIn ns w bs nd n)) ns w w′ top left sp
+      (concludedFor (envOf ns w ev od) (tree ns w t) (bindersIn ns w bs nd n) (core ns w e) left) r
 
 -- ## `generalize_binding`
 
@@ -99,6 +127,12 @@ pub record GivesGeneralized (ns cl w w′ il ev od bs bs′ : List ℕ) (top lef
   pub answer : GeneralizedAs ns cl w w′ il ev od bs bs′ top left n t e r
 
 -- ## `finalize_expr`
+
+-- Canonical names of the rows from number nd up to number n.
+pub record GivesNamesFrom (ns w w′ ev od bs : List ℕ) (top left sp nd n t e : ℕ) (r : Named) : Type 0 where
+  pub gives : GivesNamed (Unnamed ns (qual (preds-of (bindersIn ns w bs nd n)) (tree ns w t)) (envOf ns w ev od)) ns w w′ top left sp
+      (canonical-scheme-and-core (bound (qual (preds-of (bindersIn ns w bs nd n)) (tree ns w t)) (envOf ns w ev od)) (qual (preds-of (bindersIn ns w bs nd n)) (tree ns w t))
+      (abstracted (bindersIn ns w bs nd n) (core ns w e)) left) r
 
 -- What the meaning says.
 abbrev pub finalizedOut : List ℕ → List ℕ → List ℕ → ℕ → ℕ → ℕ → ℕ → ClassEnv → Out (Qual × Core)

@@ -6,7 +6,7 @@ use lib.ListN.{length}
 use Rattle.meaning.specs.Ast.{TyVar, var, Qual, Scheme, Core}
 use Rattle.meaning.specs.Budget.{Out, done}
 use Rattle.meaning.specs.Subst.{Subst, look, apply-qual}
-use Rattle.meaning.specs.Cores.{canonical-renamer, as-subst, apply-subst-to-core, canonical-scheme-and-core, canonicalize-pair}
+use Rattle.meaning.specs.Cores.{canonical-renamer, as-subst, apply-subst-to-core, canonical-scheme-and-core}
 use Rattle.meaning.specs.Generalize.{Env, abstracted}
 use Rattle.theorems.proofs.Made.{MadeQual, MadeEnv}
 use Rattle.names.specs.Names.{Names}
@@ -27,8 +27,6 @@ use Rattle.canonical.specs.Rows.{leaves-preds, Letters}
 use Rattle.settle.specs.Answers.{OwnRow}
 use Rattle.generalize.specs.declared.naming.Named.{Named}
 use Rattle.generalize.specs.declared.naming.Named.the-variants.{Done as Named-Done, Refused as Named-Refused}
-use Rattle.generalize.specs.declared.naming.Paired.{Paired}
-use Rattle.generalize.specs.declared.naming.Paired.the-variants.{Done as Paired-Done, Refused as Paired-Refused}
 
 -- ## What is asked
 
@@ -132,31 +130,3 @@ pub record GivesNamed (P : Type 0) (ns w w′ : List ℕ) (top left sp : ℕ) (o
 -- That of canonical names.
 abbrev pub GivesNames : List ℕ → List ℕ → List ℕ → List ℕ → List ℕ → List ℕ → ℕ → ℕ → ℕ → ℕ → ℕ → ℕ → Named → Type 0
 GivesNames ns w w′ ev od bs top left sp n t e r = GivesNamed (Unnamed ns (rowsQual ns w bs n t) (envOf ns w ev od)) ns w w′ top left sp (namedOut ns w ev od bs n t e left) r
-
--- ## A qualified type and a term, without an environment
-
--- What the meaning says then.
-abbrev pub pairedOut : List ℕ → List ℕ → List ℕ → ℕ → ℕ → ℕ → ℕ → Out (Qual × Core)
-pairedOut ns w bs n t e left = canonicalize-pair (rowsQual ns w bs n t) (abstracted (bindersIn ns w bs 0 n) (core ns w e)) left
-
--- The qualified type of the words ps and t′, and the term e′; where all variables were made, they are what the meaning says.
-pub record NamesPair (ns w w′ bs : List ℕ) (top left n t e ps t′ e′ top′ left′ : ℕ) : Type 0 where
-  pub preds : Node w′ top′ ps
-  pub type : Node w′ top′ t′
-  pub term : Node w′ top′ e′
-  pub small : Smalls ns (predsOf ns w′ ps)
-  pub more : top ≤ top′
-  pub spent : 4 * top′ + 8 * left′ ≤ 4 * top + 8 * left
-  pub down : left′ ≤ left
-  pub is : BuiltIns ns → MadeQual (rowsQual ns w bs n t) → pairedOut ns w bs n t e left ≡ done (listQual ns w′ ps t′, core ns w′ e′) left′
-
--- The code's answer.
-abbrev pub PairedAs : List ℕ → List ℕ → List ℕ → List ℕ → ℕ → ℕ → ℕ → ℕ → ℕ → Paired → Type 0
-PairedAs ns w w′ bs top left n t e (Paired-Done ps t′ e′ top′ left′) = NamesPair ns w w′ bs top left n t e ps t′ e′ top′ left′
-PairedAs ns w w′ bs top left n t e (Paired-Refused x top′ left′) =
-    BuiltIns ns → MadeQual (rowsQual ns w bs n t) → Refuses ns w′ top left (pairedOut ns w bs n t e left) x top′ left′
-
--- The words became w′: table and stack stand.
-pub record GivesPaired (ns w w′ bs : List ℕ) (top left sp n t e : ℕ) (r : Paired) : Type 0 where
-  pub stands : Stands w w′ top sp
-  pub answer : PairedAs ns w w′ bs top left n t e r

@@ -16,12 +16,6 @@ pub enum Named {
     Refused(Refusal, usize, usize),
 }
 
-// The predicates, the type and the term, the first free node and the steps left; or a refusal with both.
-pub enum Paired {
-    Done(usize, usize, usize, usize, usize),
-    Refused(Refusal, usize, usize),
-}
-
 // How deep a type may be.
 const DEPTH: usize = 256;
 
@@ -86,7 +80,17 @@ fn name_rest(
         AppliedQual::Done(ps, u, t2, l2) => {
             let v = canonical::sorted::sorted_vars(base, work, names, env, order, t2, ps, u);
             let m = v.top;
-            let q = canoncore::rows::rename_abstracted(base, work, names, letters, binders, m, l2, n, e);
+            let q = canoncore::rows::rename_abstracted(
+                base,
+                work,
+                names,
+                letters,
+                binders,
+                m,
+                l2,
+                n,
+                e,
+            );
             match q {
                 Applied::Done(f, t3, l3) => Named::Done(v.list, ps, u, f, t3, l3),
                 Applied::Refused(x, t3, l3) => Named::Refused(x, t3, l3),
@@ -120,7 +124,21 @@ fn name_with(
         (now (binders .entry)) top left sp n t e r ⌝ }
 {
     let k = canonical::letters(base, work, names, env, order, binders, letters, top, n, t);
-    name_rest(base, work, names, env, order, &letters[..k], binders, top, left, sp, n, t, e)
+    name_rest(
+        base,
+        work,
+        names,
+        env,
+        order,
+        &letters[..k],
+        binders,
+        top,
+        left,
+        sp,
+        n,
+        t,
+        e,
+    )
 }
 
 // `canonical_scheme_and_core` of the type t under the predicates of the first n rows, and of the term e over these rows.
@@ -145,5 +163,19 @@ pub fn name_all(
         (now (binders .entry)) top left sp n t e r ⌝ }
 {
     let mut letters: [u64; 26] = [0; 26];
-    name_with(base, work, names, env, order, &mut letters, binders, top, left, sp, n, t, e)
+    name_with(
+        base,
+        work,
+        names,
+        env,
+        order,
+        &mut letters,
+        binders,
+        top,
+        left,
+        sp,
+        n,
+        t,
+        e,
+    )
 }

@@ -35,7 +35,7 @@ same-length-2 c = search needs
 
 -- src/lib.rt:32:1
 returns : tie.Need-returns
-returns c = conclude-named _ _ _ (c .before .before .before .before .before .before .before .before .before .ambiguous .ensures) (c .before .before .before .before .before .before .before .enum-told .given .1) (c .before .before .before .before .name-all .ensures)
+returns c = conclude-named _ _ _ _ _ _ _ _ _ _ _ (c .before .before .before .before .before .before .before .before .before .ambiguous .ensures) (c .before .before .before .before .before .before .before .enum-told .given .1) (c .before .before .before .before .name-all .ensures)
 
 -- src/lib.rt:32:1
 same-length-3 : tie.Need-same-length-3
@@ -47,7 +47,7 @@ same-length-4 c = search needs
 
 -- src/lib.rt:32:1
 returns-2 : tie.Need-returns-2
-returns-2 c = conclude-refused _ _ _ (c .before .before .before .ambiguous .ensures) (c .before .c .given .1)
+returns-2 c = conclude-refused _ _ _ _ _ _ _ _ _ _ _ (c .before .before .before .ambiguous .ensures) (c .before .c .given .1)
 
 pub conclude-spec : {M : Type 1} → statement M
 conclude-spec =
