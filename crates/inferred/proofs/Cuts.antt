@@ -2,7 +2,7 @@
 use mathlib.Core.Path.{_≡_, refl, ap, sym, _∙_}
 use mathlib.Core.List.{_++_}
 use Prim.Native.Nat.{ℕ}
-use Rattle.meaning.specs.Ast.{Name, TyVar, Ty, var, arrow, Expr, Core, capp, clet}
+use Rattle.meaning.specs.Ast.{Name, TyVar, var, arrow, Expr, Core, capp, clet}
 use Rattle.meaning.specs.Budget.{Out, done, refused, Steps, after}
 use Rattle.meaning.specs.Subst.{Subst, apply-type, apply-preds-pending, compose}
 use Rattle.meaning.specs.Unify.{unify}
@@ -31,6 +31,7 @@ unfolding after
 lift-line st (done a n) f g h = h a n
 lift-line st (refused r n) f g h = refl
 
+-- `infer_abs`, cut after the variable.
 pub abs-cut : (infer : Expr → Run Inferred) (x : Name) (body : Expr) (st : State) (n : ℕ)
     → infer-abs infer x body st n ≡ (_>>=_ fresh-tyvar (λ a. abs-body infer x a body)) st n
 unfolding infer-abs abs-body abs-close after
@@ -67,6 +68,7 @@ app-lines a f x st n =
     lift-line st (apply-preds-pending s (x .2) n₆) _ _ λ qs n₇.
     refl
 
+-- `infer_app`, cut after the function.
 pub app-cut : (infer : Expr → Run Inferred) (f x : Expr) (st : State) (n : ℕ)
     → infer-app infer f x st n ≡ (do
       a ← fresh-tyvar
@@ -91,6 +93,7 @@ let-lines v s₁ c₁ deferred r st n =
     lift-line st (compose (r .0) s₁ n₁) _ _ λ s n₂.
     refl
 
+-- `infer_let`, cut after what it binds.
 pub let-cut : (ce : ClassEnv) (infer : Expr → Run Inferred) (v : Name) (e₁ e₂ : Expr) (st : State) (n : ℕ)
     → infer-let ce infer v e₁ e₂ st n ≡ (_>>=_ (infer e₁) (λ r. let-mid ce infer v r e₂)) st n
 unfolding infer-let let-mid let-general let-body

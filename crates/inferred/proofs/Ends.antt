@@ -1,46 +1,41 @@
 -- The ways out of the ends of abstractions and applications, from what the calls gave.
-use mathlib.Core.Path.{_≡_, refl, ap, sym, _∙_}
-use mathlib.Core.List.{List, [], _++_}
-use Prim.Native.Nat.{ℕ, zero, suc, _+_, _*_, _-_, _^_, _<_, _≤_}
+use mathlib.Core.Path.{_≡_, refl, sym, _∙_}
+use mathlib.Core.List.{List}
+use Prim.Native.Nat.{ℕ, _+_, _*_, _-_, _^_, _<_, _≤_}
 use native.Mathlib.Omega.{arith}
-use lib.ListN.{length, getD}
-use Rattle.meaning.specs.Ast.{Name, TyVar, Ty, var, arrow, Binder, Core, cabs, capp}
-use Rattle.meaning.specs.Budget.{Out, done, refused, Steps, after}
-use Rattle.meaning.specs.Subst.{Subst, apply-type, apply-preds-pending}
-use Rattle.meaning.specs.Generalize.{Pending}
+use lib.ListN.{length}
+use Rattle.meaning.specs.Ast.{Name, TyVar, Ty, var, arrow, Core, cabs, capp}
+use Rattle.meaning.specs.Budget.{Out, done, after}
+use Rattle.meaning.specs.Subst.{apply-type, apply-preds-pending}
 use Rattle.meaning.specs.Infer as M
 use Rattle.names.specs.Names.{first-node, nameOf, tyvarOf}
-use Rattle.ast.specs.Table.{tree, Table, Kept, Node}
-use Rattle.ast.proofs.Laws.{kept-tree, kept-table, node-more}
+use Rattle.ast.specs.Table.{tree, Table, Kept}
+use Rattle.ast.proofs.Laws.{kept-tree, node-more}
 use Rattle.ast.proofs.NewNode.{Pushed}
 use Rattle.errors.specs.declared.Refusal.{Refusal}
-use Rattle.pairs.specs.Pairs.{subAt, Sub, Stands}
+use Rattle.pairs.specs.Pairs.{subAt, Stands}
 use Rattle.pairs.proofs.Frames.{stands-then, stands-up, sub-later, sub-stands}
 use Rattle.apply.proofs.Hand.{Then, then-done, refuse-on, refuse-same}
 use Rattle.cores.specs.Parts.{pushedFour}
 use Rattle.cores.specs.Terms.{core}
 use Rattle.cores.proofs.TermLaws.{kept-core}
 use Rattle.cores.proofs.NewTerm.{four-stands, push-called}
-use Rattle.supers.specs.Rows.{rowAt, bindersFrom, bindersIn, TypeIn}
+use Rattle.supers.specs.Rows.{rowAt, bindersIn, TypeIn}
 use Rattle.supers.specs.declared.rows.Row.{Row}
 use Rattle.supers.specs.declared.rows.Row.the-variants.{Pending as P-Row, Replaced}
 use Rattle.supers.proofs.RowLaws.{kept-rows}
 use Rattle.ends.specs.Ends as E
 use Rattle.ends.specs.declared.Ended.{Ended}
 use Rattle.ends.specs.declared.Ended.the-variants.{Done as E-Done, Refused as E-Refused}
-use Rattle.ends.specs.declared.Joined.{Joined}
-use Rattle.ends.specs.declared.Joined.the-variants.{Done as J-Done, Refused as J-Refused}
 use Rattle.pending.specs.Rows.{PendingRow, PendingRows}
 use Rattle.pending.specs.Swept.{ReadySweep, RowsSwept, GivesRows}
 use Rattle.pending.specs.declared.Swept.{Swept}
 use Rattle.pending.specs.declared.Swept.the-variants.{Done as S-Done, Refused as S-Refused}
-use Rattle.pending.proofs.Sweeps.{prefixed, pending-split}
-use Rattle.pending.proofs.Loops.{binders-split}
-use Rattle.inferred.specs.Parts.{abs-close, app-last, app-rows, app-close}
-use Rattle.inferred.specs.Closing.{Region, Answered, answerFrom, answerOf, ReadyAbs, ReadyLast, ReadyApp, GrownC, AnswerC, GivesC}
+use Rattle.inferred.specs.Parts.{abs-close, app-rows}
+use Rattle.inferred.specs.Closing.{Region, answerOf, ReadyAbs, ReadyLast, AnswerC, GivesC}
 use Rattle.inferred.specs.declared.Closed.{Closed}
 use Rattle.inferred.specs.declared.Closed.the-variants.{Done, Refused}
-use Rattle.inferred.proofs.Cuts.{after-after, after-same}
+use Rattle.inferred.proofs.Cuts.{after-after}
 
 -- ## Words that stand
 

@@ -1,10 +1,10 @@
 -- The ways out of `app_close`, from what the calls gave: types joined, then the rows of both parts in one sweep.
 use mathlib.Core.Path.{_≡_, refl, ap, sym, _∙_}
-use mathlib.Core.List.{List, [], _++_}
-use Prim.Native.Nat.{ℕ, _+_, _*_, _-_, _<_, _≤_}
+use mathlib.Core.List.{List, _++_}
+use Prim.Native.Nat.{ℕ, _+_, _*_, _-_, _≤_}
 use native.Mathlib.Omega.{arith}
 use lib.ListN.{length}
-use Rattle.meaning.specs.Ast.{TyVar, Ty, Binder, Core, capp}
+use Rattle.meaning.specs.Ast.{Ty, Binder, Core, capp}
 use Rattle.meaning.specs.Budget.{Out, done, refused, after}
 use Rattle.meaning.specs.Subst.{Subst, apply-preds-pending}
 use Rattle.meaning.specs.Generalize.{Pending}
@@ -13,7 +13,7 @@ use Rattle.names.specs.Names.{tyvarOf}
 use Rattle.ast.specs.Table.{tree}
 use Rattle.ast.proofs.Laws.{node-more}
 use Rattle.errors.specs.declared.Refusal.{Refusal}
-use Rattle.pairs.specs.Pairs.{subAt, Stands}
+use Rattle.pairs.specs.Pairs.{subAt}
 use Rattle.pairs.proofs.Frames.{stands-then}
 use Rattle.apply.proofs.Hand.{Then, then-done, refuse-on}
 use Rattle.cores.specs.Terms.{core}
@@ -25,11 +25,11 @@ use Rattle.ends.specs.declared.Joined.the-variants.{Done as J-Done, Refused as 
 use Rattle.pending.proofs.Sweeps.{prefixed, pending-split}
 use Rattle.pending.proofs.Loops.{binders-split}
 use Rattle.inferred.specs.Parts.{app-last, app-rows, app-close}
-use Rattle.inferred.specs.Closing.{Region, answerFrom, answerOf, ReadyLast, ReadyApp, GivesC}
+use Rattle.inferred.specs.Closing.{answerFrom, answerOf, ReadyLast, ReadyApp, GivesC}
 use Rattle.inferred.specs.declared.Closed.{Closed}
-use Rattle.inferred.specs.declared.Closed.the-variants.{Done, Refused}
+use Rattle.inferred.specs.declared.Closed.the-variants.{Refused}
 use Rattle.inferred.proofs.Cuts.{after-after, after-same}
-use Rattle.inferred.proofs.Ends.{rows-later, rows-same, region-later, closed-answer}
+use Rattle.inferred.proofs.Ends.{rows-later, rows-same, closed-answer}
 
 -- A list before what is applied, and then the rest of the block.
 prefixed-on : {A : Type 0} (a : List Binder) (o : Out (List Binder)) (g : List Binder → A) → after (prefixed a o) (λ z. done (g z)) ≡ after o (λ z. done (g (a ++ z)))

@@ -1,28 +1,26 @@
 -- The ways out of `let_last` and `let_close`, from what the calls gave.
-use mathlib.Core.Path.{_≡_, refl, ap, sym, _∙_}
-use mathlib.Core.List.{List, [], _++_}
+use mathlib.Core.Path.{_≡_, refl, ap, _∙_}
+use mathlib.Core.List.{List, _++_}
 use Prim.Native.Nat.{ℕ, _+_, _*_, _-_, _^_, _<_, _≤_}
 use native.Mathlib.Omega.{arith}
-use native.Mathlib.Decide.{ℕ-discrete}
-use lib.ListN.{length, getD}
+use lib.ListN.{length}
 use native.Mathlib.Decide.{decLt}
-use Rattle.meaning.specs.Ast.{Name, Ty, Core, clet}
-use Rattle.meaning.specs.Budget.{Out, done, refused, after}
-use Rattle.meaning.specs.Subst.{Subst, apply-preds-pending, compose}
-use Rattle.meaning.specs.Generalize.{Pending}
+use Rattle.meaning.specs.Ast.{clet}
+use Rattle.meaning.specs.Budget.{Out, done}
+use Rattle.meaning.specs.Subst.{apply-preds-pending, compose}
 use Rattle.meaning.specs.Infer as M
 use Rattle.names.specs.Names.{first-node, nameOf}
-use Rattle.ast.specs.Table.{tree, Table, Node}
+use Rattle.ast.specs.Table.{tree}
 use Rattle.ast.proofs.Laws.{kept-tree, node-more}
 use Rattle.ast.proofs.NewNode.{Pushed}
 use Rattle.errors.specs.declared.Refusal.{Refusal}
 use Rattle.pairs.specs.Pairs.{subAt, Stands}
-use Rattle.pairs.proofs.Frames.{stands-then, stands-up, sub-later, sub-stands}
+use Rattle.pairs.proofs.Frames.{stands-then, stands-up, sub-stands}
 use Rattle.apply.specs.declared.Applied.{Applied}
 use Rattle.apply.specs.declared.Applied.the-variants.{Done as A-Done, Refused as A-Refused}
 use Rattle.apply.proofs.Hand.{Then, then-done, refuse-on}
 use Rattle.compose.specs.Compose.{Both, GivesSub}
-use Rattle.compose.specs.Answers.{GrownU, GivesU, ReadyJoin}
+use Rattle.compose.specs.Answers.{GivesU, ReadyJoin}
 use Rattle.compose.proofs.Hand.{got, lost}
 use Rattle.unify.proofs.Single.{join-both, joins}
 use Rattle.cores.specs.Parts.{pushedFour}
@@ -37,7 +35,7 @@ use Rattle.pending.specs.declared.Swept.{Swept}
 use Rattle.pending.specs.declared.Swept.the-variants.{Done as S-Done, Refused as S-Refused}
 use Rattle.pending.proofs.Loops.{same-rows, binders-split}
 use Rattle.inferred.specs.Parts.{let-last, let-close}
-use Rattle.inferred.specs.Closing.{Region, answerFrom, answerOf, ReadyLet, GivesC}
+use Rattle.inferred.specs.Closing.{answerFrom, ReadyLet, GivesC}
 use Rattle.inferred.specs.declared.Closed.{Closed}
 use Rattle.inferred.specs.declared.Closed.the-variants.{Done, Refused}
 use Rattle.inferred.proofs.Ends.{row-later, rows-later, row-type, rows-same, region-later, closed-answer}

@@ -6,15 +6,13 @@ use Prim.Native.Nat.{ℕ, _+_, _*_, _-_, _^_, _<_, _≤_}
 use native.Mathlib.Omega.{arith}
 use lib.ListN.{length}
 use Rattle.meaning.specs.Base.{nth}
-use Rattle.meaning.specs.Ast.{called, Ty, con, nil, int, bool, Core, cint, cbool}
-use Rattle.meaning.specs.Budget.{Out, done}
+use Rattle.meaning.specs.Ast.{called, int, bool, cint, cbool}
+use Rattle.meaning.specs.Budget.{done}
 use Rattle.meaning.specs.Subst.{empty}
-use Rattle.meaning.specs.Infer as M
-use Rattle.names.specs.Names.{first-nullary, first-node, nameOf}
+use Rattle.names.specs.Names.{first-nullary, first-node}
 use Rattle.names.proofs.Where.{is-nullary}
-use Rattle.ast.specs.Table.{tree, BuiltIn, Table, Node}
+use Rattle.ast.specs.Table.{tree, BuiltIn}
 use Rattle.ast.proofs.Laws.{no-nodes, low-node}
-use Rattle.ast.proofs.NewNode.{Pushed}
 use Rattle.ast.proofs.Stands.{stands-int, stands-bool}
 use Rattle.rows.specs.BuiltIns.{built-ins, BuiltIns}
 use Rattle.pairs.specs.Pairs.{subAt}
@@ -23,22 +21,22 @@ use Rattle.cores.specs.Parts.{constantPart, partOf, pushedFour}
 use Rattle.cores.specs.Terms.{core}
 use Rattle.cores.proofs.TermLaws.{core-of}
 use Rattle.cores.proofs.NewTerm.{four-stands, push-number}
-use Rattle.supers.specs.Rows.{bindersFrom, bindersIn}
+use Rattle.supers.specs.Rows.{bindersFrom}
 use Rattle.pending.specs.Rows.{PendingRows}
-use Rattle.inferred.specs.Closing.{Region, Answered, answerOf, ReadyLiteral, GivesC}
-use Rattle.inferred.specs.declared.Closed.{Closed}
-use Rattle.inferred.specs.declared.Closed.the-variants.{Done, Refused}
+use Rattle.inferred.specs.Closing.{Region, answerOf, ReadyLiteral, GivesC}
+use Rattle.inferred.specs.declared.Closed.the-variants.{Done}
 
 -- The names of the two types.
 pub two-types : {ns : List ℕ} → BuiltIns ns → BuiltIn ns
 unfolding built-ins nth
 two-types B = record { int-name = B .is 0 (called "Int") refl; bool-name = B .is 1 (called "Bool") refl }
 
--- The words of the truth values.
+-- The word of the truth value false.
 pub false-core : (ns w : List ℕ) → core ns w (first-nullary + 0) ≡ cbool false
 unfolding partOf constantPart
 false-core ns w = core-of ns (low-node (no-nodes w) (omega arith)) refl ∙ rw (is-nullary (first-nullary + 0) (omega arith) (omega arith) (omega arith))
 
+-- And of true.
 pub true-core : (ns w : List ℕ) → core ns w (first-nullary + 1) ≡ cbool true
 unfolding partOf constantPart
 true-core ns w = core-of ns (low-node (no-nodes w) (omega arith)) refl ∙ rw (is-nullary (first-nullary + 1) (omega arith) (omega arith) (omega arith))

@@ -1,13 +1,13 @@
 -- 000's `infer_abs`, `infer_app` and `infer_let`, cut where a part has been inferred: what is left to do then.
-use mathlib.Core.List.{List, _++_}
+use mathlib.Core.List.{_++_}
 use mathlib.Core.Option.{Option}
 use Rattle.meaning.specs.Ast.{Name, TyVar, Ty, var, arrow, Scheme, Expr, Core, cabs, capp, clet}
-use Rattle.meaning.specs.Budget.{Out, done, Steps, after}
+use Rattle.meaning.specs.Budget.{done, Steps, after}
 use Rattle.meaning.specs.Subst.{Subst, apply-type, apply-preds-pending, compose}
 use Rattle.ends.specs.Ends.{joined}
 use Rattle.meaning.specs.Classes.{ClassEnv}
 use Rattle.meaning.specs.Generalize.{Pending, generalize-binding}
-use Rattle.meaning.specs.Infer.{Run, _>>=_, pure, lift, fresh-tyvar, ask-env, env-insert, env-restore, apply-env, mono, Inferred}
+use Rattle.meaning.specs.Infer.{Run, _>>=_, lift, ask-env, env-insert, env-restore, apply-env, mono, Inferred}
 
 -- ## Without the environment
 
