@@ -1,0 +1,9 @@
+pub mod Handing
+pub mod Standing
+pub mod Plainly
+pub mod Abstractions
+pub mod Applications
+pub mod Dispatch
+pub mod Bindings
+pub mod Bodies
+pub mod Parts
