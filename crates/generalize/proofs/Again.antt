@@ -4,17 +4,16 @@ use mathlib.Core.Bool.{Bool, true, false}
 use mathlib.Core.List.{List, [], _∷_}
 use mathlib.Core.Option.{Option, none, some}
 use Prim.Native.Nat.{ℕ, zero, suc}
-use Rattle.meaning.specs.Ast.{TyVar, letter, Ty, Tys, var, con, arrow, nil, _◂_, Pred, Core, Binder}
-use Rattle.meaning.specs.Budget.{Out, done, after, Steps, step, depth}
+use Rattle.meaning.specs.Ast.{TyVar, letter, Ty, Tys, var, con, arrow, nil, _◂_, Core, Binder}
+use Rattle.meaning.specs.Budget.{Out, done, Steps, step, depth}
 use Rattle.meaning.specs.Map.{tyvars, get, elem}
 use Rattle.meaning.specs.Subst.{Subst, look, each, apply-node, apply-in, apply-pred, apply-preds-pending}
 use Rattle.meaning.specs.Plain.{Fill, sub, subs, sub-pred}
-use Rattle.meaning.specs.Cores.{internal-before, sort-by, renamer-from, canonical-renamer, as-subst, apply-core-node, apply-core-in, apply-subst-to-core}
+use Rattle.meaning.specs.Cores.{internal-before, sort-by, canonical-renamer, as-subst, apply-core-node, apply-core-in, apply-subst-to-core}
 use Rattle.meaning.specs.Generalize.{abstracted}
 use Rattle.theorems.proofs.Says.{Says, Limit, and-then}
 use Rattle.theorems.proofs.Applied.{pred-says}
 use Rattle.theorems.proofs.FreeVars.{elem-sort-by}
-use Rattle.theorems.proofs.Made.{IsMade}
 use Rattle.theorems.proofs.MadeGeneralized.{MadeVars}
 use Rattle.canonical.proofs.Chosen.{or-name, look-as, absent}
 use Rattle.generalize.specs.Naming.{Stays}
@@ -46,11 +45,13 @@ canonical-stays vs m x = go (get tyvars x (canonical-renamer vs)) refl
     go (some y) e = named y e (renamer-names 0 (sort-by internal-before vs) x y e)
 
 -- ## types
+-- Each type of a list.
 each-again : (θ : Fill) (f : Ty → Steps Ty) → ((t : Ty) → f (sub θ t) ≡ f t) → (ts : Tys) → each f (subs θ ts) ≡ each f ts
 unfolding each sub
 each-again θ f h nil = refl
 each-again θ f h (t ◂ ts) = rw (h t, each-again θ f h ts) refl
 
+-- A type at a node.
 node-again : (s : Subst) (f : Ty → Steps Ty) → ((x : TyVar) → Stays s x) → ((t : Ty) → f (sub (look s) t) ≡ f t) → (t : Ty) → apply-node f s (sub (look s) t) ≡ apply-node f s t
 unfolding apply-node sub
 node-again s f S h (var x) = rw (S x .is, S x .stays) refl
@@ -77,12 +78,14 @@ pending-says s (b ∷ bs) n =
     and-then _ _ _ (apply-pred s (b .1) n) _ (pred-says s (b .1) n) λ q e m.
     and-then _ _ _ (apply-preds-pending s bs m) _ (pending-says s bs m) λ qs f k. rw (e, f) refl
 
+-- Renamed binders are renamed as the binders themselves.
 pending-again : (s : Subst) → ((x : TyVar) → Stays s x) → (bs : List Binder) → apply-preds-pending s (sub-pending (look s) bs) ≡ apply-preds-pending s bs
 unfolding apply-preds-pending sub-pending apply-pred
 pending-again s S [] = refl
 pending-again s S (b ∷ bs) = rw (type-again depth s S (b .1 .ty), pending-again s S bs) refl
 
 -- ## a term over them
+-- So is a term over them.
 over-again : (s : Subst) → ((x : TyVar) → Stays s x) → (bs : List Binder) (c : Core) (m : ℕ) → apply-subst-to-core s (abstracted (sub-pending (look s) bs) c) m ≡ apply-subst-to-core s (abstracted bs c) m
 unfolding abstracted sub-pending apply-core-in apply-core-node
 over-again s S [] c m = refl

@@ -1,18 +1,18 @@
 -- `finalize_expr`: canonical names without an environment, and its ways out.
 use mathlib.Core.Path.{_≡_, refl, ap, sym, _∙_, subst}
 use mathlib.Core.List.{List, []}
-use Prim.Native.Nat.{ℕ, _+_, _*_, _-_, _<_, _≤_}
+use Prim.Native.Nat.{ℕ, _*_, _-_}
 use native.Mathlib.Omega.{arith}
 use lib.ListN.{length, take, drop}
 use Rattle.meaning.specs.Ast.{TyVar, tyvar-before, Ty, Qual, qual, Scheme, forall, Core, Binder}
 use Rattle.meaning.specs.Budget.{Out, done, refused, Steps, after}
-use Rattle.meaning.specs.Subst.{Subst, apply-qual, ftv-type, ftv-qual}
+use Rattle.meaning.specs.Subst.{apply-qual, ftv-type, ftv-qual}
 use Rattle.meaning.specs.Classes.{ClassEnv}
 use Rattle.meaning.specs.Cores.{sort-by, images, canonical-renamer, as-subst, apply-subst-to-core, canonical-scheme-and-core, canonicalize-pair}
 use Rattle.meaning.specs.Generalize.{Env, env-ftv, preds-of, abstracted, is-own}
 use Rattle.theorems.proofs.Made.{MadeQual, MadeEnv, made-qual}
-use Rattle.ast.specs.Table.{tree, Node}
-use Rattle.ast.proofs.Laws.{kept-tree, node-more}
+use Rattle.ast.specs.Table.{tree}
+use Rattle.ast.proofs.Laws.{kept-tree}
 use Rattle.errors.specs.declared.Refusal.{Refusal}
 use Rattle.pairs.proofs.Frames.{stands-then}
 use Rattle.apply.proofs.Hand.{Then, then-done, refuse-on}
@@ -21,7 +21,6 @@ use Rattle.cores.specs.Terms.{core}
 use Rattle.supers.specs.Rows.{bindersIn}
 use Rattle.scope.specs.Scope.{envOf}
 use Rattle.scope.proofs.Empties.{no-env}
-use Rattle.scope.proofs.Laws.{scope-kept}
 use Rattle.canonical.specs.Named.{bound}
 use Rattle.canonical.proofs.Fewer.{bound-all}
 use Rattle.settle.specs.Settles.{finalized}

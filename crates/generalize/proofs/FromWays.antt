@@ -6,8 +6,8 @@ use native.Mathlib.Omega.{arith}
 use lib.ListN.{length, getD, take, drop, List·getD-append}
 use lib.Seq.{getD-take}
 use borrow.Table.Elements.{length-take-le}
-use Rattle.meaning.specs.Ast.{Ty, qual, Scheme, Core, Binder}
-use Rattle.meaning.specs.Budget.{Out, done, after}
+use Rattle.meaning.specs.Ast.{Ty, qual, Core, Binder}
+use Rattle.meaning.specs.Budget.{done, after}
 use Rattle.meaning.specs.Subst.{ftv-type}
 use Rattle.meaning.specs.Classes.{ClassEnv}
 use Rattle.meaning.specs.Generalize.{Env, env-ftv, preds-of, is-own}

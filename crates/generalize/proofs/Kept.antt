@@ -1,6 +1,6 @@
 -- What is left after `reduce` and `simplify_context`: made predicates whose types are variables.
-use mathlib.Core.Path.{_≡_, refl, sym, _∙_, subst}
-use mathlib.Core.Bool.{Bool, true, false, not, _&&_, false≢true}
+use mathlib.Core.Path.{_≡_, refl, sym, subst}
+use mathlib.Core.Bool.{Bool, true, false}
 use mathlib.Core.List.{List, [], _∷_, _++_}
 use mathlib.Core.Option.{Option, none, some}
 use Prim.Native.Nat.{ℕ}
@@ -8,12 +8,12 @@ use Rattle.meaning.specs.Base.{yes?, if, keep, first}
 use Rattle.meaning.specs.Ast.{Pred, same-pred, Core, Binder}
 use Rattle.meaning.specs.Budget.{Out, done}
 use Rattle.meaning.specs.Classes.{ClassEnv}
-use Rattle.meaning.specs.Reduce.{Discharged, Removed, is-head-normal, reduce, find-super-proof, sorted-out, simplify-from, simplify-context}
+use Rattle.meaning.specs.Reduce.{Removed, is-head-normal, reduce, find-super-proof, sorted-out, simplify-from, simplify-context}
 use Rattle.meaning.specs.Generalize.{Pending, preds-of, with-first, binders-of}
 use Rattle.theorems.proofs.Says.{Says, Any, and-then, past}
 use Rattle.theorems.proofs.Tests.{and-left}
 use Rattle.theorems.proofs.Made.{MadeTy, MadePreds, MadePending}
-use Rattle.theorems.proofs.Residuals.{is-new, left-of, Split, reduce-splits}
+use Rattle.theorems.proofs.Residuals.{is-new, left-of, reduce-splits}
 use Rattle.settle.specs.Settles.{settled}
 use Rattle.generalize.specs.Generalizes.{AllVariable}
 
@@ -37,6 +37,7 @@ fit-variable [] h = tt
 fit-variable (p ∷ ps) h = (h .0 .1, fit-variable ps (h .1))
 
 -- ## `reduce`
+-- What `reduce` leaves of made predicates.
 left-fit : (rs ps : List Pred) → MadePreds ps → AllFit (left-of rs ps)
 unfolding left-of
 left-fit rs [] h = tt
@@ -47,6 +48,7 @@ left-fit rs (p ∷ ps) h = go (is-new rs p) refl (left-fit (rs ++ (p ∷ [])) ps
     go false e i j = j
 
 -- ## binders
+-- The binders of predicates.
 binders-fit : (qs : List Pred) (ps : Pending) → AllFit qs → AllFit (preds-of (binders-of qs ps))
 unfolding binders-of with-first
 binders-fit [] ps h = tt
@@ -56,6 +58,7 @@ binders-fit (q ∷ qs) ps h = go (first (λ (b : Binder). yes? (same-pred (b .1)
     go none i = i
     go (some b) i = (h .0, i)
 
+-- Those that pass a test.
 keep-fit : (f : Binder → Bool) (bs : Pending) → AllFit (preds-of bs) → AllFit (preds-of (keep f bs))
 unfolding keep
 keep-fit f [] h = tt
@@ -65,10 +68,12 @@ keep-fit f (b ∷ bs) h = go (f b) (keep-fit f bs (h .1))
     go true i = (h .0, i)
     go false i = i
 
+-- Two lists of them.
 append-fit : (bs cs : Pending) → AllFit (preds-of bs) → AllFit (preds-of cs) → AllFit (preds-of (bs ++ cs))
 append-fit [] cs h k = k
 append-fit (b ∷ bs) cs h k = (h .0, append-fit bs cs (h .1) k)
 
+-- What `simplify_context` keeps.
 simplify-fit : (ce : ClassEnv) (bs : List Binder) (o : List Binder × List Removed) (n : ℕ) → AllFit (preds-of bs) → AllFit (preds-of (o .0))
     → Says (λ r. AllFit (preds-of (r .0))) Any (simplify-from ce bs o n)
 unfolding simplify-from sorted-out
@@ -80,6 +85,7 @@ simplify-fit ce (b ∷ bs) o n h k = past _ (find-super-proof ce (o .0 ++ bs) (b
     go (some e) = k
 
 -- ## all of it
+-- What is kept when all is settled.
 settled-fit : (ce : ClassEnv) (own : Binder → Bool) (ps : Pending) (e : Core) (n : ℕ) → MadePending ps → Says (λ r. AllFit (preds-of (r .0))) Any (settled ce own ps e n)
 unfolding settled
 settled-fit ce own ps e n h =

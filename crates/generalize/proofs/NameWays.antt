@@ -1,13 +1,13 @@
 -- A scheme and a term with canonical names: what the calls of `name_with` are asked, and its ways out.
 use mathlib.Core.Path.{_≡_, refl, ap, sym, _∙_, subst}
 use mathlib.Core.List.{List, [], _∷_}
-use Prim.Native.Nat.{ℕ, _+_, _*_, _-_, _<_, _≤_}
+use Prim.Native.Nat.{ℕ, _+_, _*_, _-_, _≤_}
 use native.Mathlib.Omega.{arith}
 use lib.ListN.{length, take}
 use Rattle.meaning.specs.Base.{count, total}
-use Rattle.meaning.specs.Ast.{TyVar, tyvar-before, size, Pred, Qual, qual, Scheme, forall, Core, Binder}
+use Rattle.meaning.specs.Ast.{TyVar, tyvar-before, Pred, Qual, qual, Scheme, forall, Core}
 use Rattle.meaning.specs.Budget.{Out, done, after}
-use Rattle.meaning.specs.Subst.{Subst, look, apply-qual, ftv-qual}
+use Rattle.meaning.specs.Subst.{look, apply-qual, ftv-qual}
 use Rattle.meaning.specs.Plain.{sub, sub-preds}
 use Rattle.meaning.specs.Cores.{sort-by, images, canonical-renamer, as-subst, apply-core-in, apply-subst-to-core, canonical-scheme-and-core}
 use Rattle.meaning.specs.Generalize.{Env, env-ftv, abstracted}
@@ -17,8 +17,7 @@ use Rattle.theorems.proofs.Says.{Says, Limit}
 use Rattle.theorems.proofs.Generalized.{qual-says}
 use Rattle.theorems.proofs.Made.{MadeQual}
 use Rattle.theorems.proofs.MadeGeneralized.{MadeVars, ftv-made, without-made}
-use Rattle.names.specs.Names.{Names}
-use Rattle.ast.specs.Table.{tree, Table, Node, Kept}
+use Rattle.ast.specs.Table.{Node}
 use Rattle.ast.proofs.Laws.{kept-tree, node-more}
 use Rattle.errors.specs.Refusals.{Refuses}
 use Rattle.errors.specs.declared.Refusal.{Refusal}
@@ -27,21 +26,18 @@ use Rattle.pairs.proofs.Frames.{stands-then, stands-up}
 use Rattle.apply.specs.declared.Applied.{Applied}
 use Rattle.apply.specs.declared.Applied.the-variants.{Done as Made, Refused as Not-made}
 use Rattle.apply.proofs.Hand.{Then, then-done, refuse-on, refuse-same}
-use Rattle.subst.specs.Preds.{predsOf}
 use Rattle.subst.specs.Schemes.{schemeOf}
 use Rattle.subst.specs.declared.AppliedQual.{AppliedQual}
 use Rattle.subst.specs.declared.AppliedQual.the-variants.{Done, Refused}
 use Rattle.subst.proofs.PredLaws.{kept-preds}
-use Rattle.vars.specs.Vars.{varsOf}
 use Rattle.supers.specs.Rows.{bindersIn}
 use Rattle.supers.proofs.RowLaws.{kept-rows}
 use Rattle.cores.specs.Terms.{core}
 use Rattle.cores.proofs.TermLaws.{kept-core}
-use Rattle.scope.specs.Scope.{envOf, Scope, Smalls, Fine, Held}
+use Rattle.scope.specs.Scope.{envOf, Smalls, Fine}
 use Rattle.scope.proofs.Envs.{in-order}
 use Rattle.scope.proofs.Laws.{scope-kept, env-kept}
 use Rattle.scope.proofs.Fines.{kept-scheme}
-use Rattle.rename.specs.Renaming.{Renames, leaves}
 use Rattle.rename.proofs.Leaves.{leaves-size}
 use Rattle.rows.specs.BuiltIns.{BuiltIns}
 use Rattle.canonical.specs.Named.{rowsQual, listQual, bound, ReadyRows, Lettered, ReadyVars, Sorted}
@@ -52,7 +48,7 @@ use Rattle.canonical.proofs.Images.{env-vars-made, new-names}
 use Rattle.canoncore.specs.Lettered as letter
 use Rattle.canoncore.specs.RowsReady as rows
 use Rattle.generalize.specs.declared.naming.Named.the-variants.{Done as Named-Done, Refused as Named-Refused}
-use Rattle.generalize.specs.Naming.{ReadyNames, Stays, ReadyLetters, Chosen, Unnamed, canonical, NamesQual, GivesLettered, namedOut, GivesNames}
+use Rattle.generalize.specs.Naming.{ReadyNames, Stays, ReadyLetters, Chosen, canonical, NamesQual, GivesLettered, GivesNames}
 use Rattle.generalize.proofs.Again.{canonical-stays}
 use Rattle.generalize.proofs.QualWays.{own-binders, own-small, own-kept, take-few, renames-any}
 

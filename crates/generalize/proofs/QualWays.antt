@@ -1,16 +1,15 @@
 -- Predicates and type with letters: what the calls of `name_qual` are asked, and its ways out.
 use mathlib.Core.Path.{_≡_, refl, ap, sym, _∙_, subst}
 use mathlib.Core.List.{List, [], _∷_}
-use Prim.Native.Nat.{ℕ, zero, suc, _+_, _*_, _-_, _<_, _≤_}
+use Prim.Native.Nat.{ℕ, zero, suc, _-_, _<_, _≤_}
 use native.Mathlib.Omega.{arith}
 use lib.ListN.{length, take}
-use Rattle.meaning.specs.Ast.{Ty, Pred, Qual, qual, Binder}
-use Rattle.meaning.specs.Budget.{Out, done, after}
+use Rattle.meaning.specs.Ast.{Ty, Pred, Qual, qual}
+use Rattle.meaning.specs.Budget.{done, after}
 use Rattle.meaning.specs.Subst.{Subst, apply-in, apply-type, apply-preds, apply-qual}
-use Rattle.meaning.specs.Generalize.{preds-of}
 use Rattle.names.specs.Names.{Names}
-use Rattle.ast.specs.Table.{nil-word, tree, Table, Node}
-use Rattle.ast.proofs.Laws.{kept-tree, kept-node, node-more, low-node}
+use Rattle.ast.specs.Table.{nil-word, tree, Table}
+use Rattle.ast.proofs.Laws.{kept-tree, node-more, low-node}
 use Rattle.errors.specs.Refusals.{Refuses}
 use Rattle.errors.specs.declared.Refusal.{Refusal}
 use Rattle.pairs.specs.Pairs.{Stands}
@@ -24,8 +23,8 @@ use Rattle.supers.specs.Rows.{rowAt, bindersIn, HasWord, TypeIn, Binders}
 use Rattle.supers.specs.declared.rows.Row.{Row}
 use Rattle.supers.specs.declared.rows.Row.the-variants.{Pending, Replaced}
 use Rattle.supers.proofs.RowLaws.{kept-rows}
-use Rattle.scope.specs.Scope.{envOf, Smalls}
-use Rattle.rename.specs.Renaming.{Renames, renamedWord, leaves}
+use Rattle.scope.specs.Scope.{Smalls}
+use Rattle.rename.specs.Renaming.{Renames, renamedWord}
 use Rattle.rename.specs.Renamed as by
 use Rattle.rename.specs.Renamed.{TypeRenamed}
 use Rattle.canonical.specs.Named.{rowsQual}
@@ -35,7 +34,7 @@ use Rattle.canonical.proofs.SameLeaves.{type-leaves, rows-leaves}
 use Rattle.canoncore.specs.RowsReady.{SmallRow}
 use Rattle.settle.specs.Answers.{OwnRow}
 use Rattle.subst.specs.declared.AppliedQual.the-variants.{Done, Refused}
-use Rattle.generalize.specs.Naming.{OwnRows, ReadyLetters, NamesQual, GivesLettered}
+use Rattle.generalize.specs.Naming.{OwnRows, ReadyLetters, GivesLettered}
 use Rattle.generalize.proofs.Again.{renamed-again}
 use Rattle.generalize.proofs.Smallness.{SmallBinders, preds-small, rows-small, small-rows, renamed-small, renamed-smalls}
 

@@ -2,11 +2,10 @@
 -- same as some words that become letters.
 use mathlib.Core.Path.{_≡_, refl, ap, sym, _∙_, subst}
 use mathlib.Core.List.{List, [], _∷_}
-use mathlib.Core.Option.{some}
 use Prim.Native.Nat.{ℕ, zero, suc, _+_, _<_, _≤_}
 use native.Mathlib.Omega.{arith}
 use native.Mathlib.Decide.{ℕ-discrete}
-use Rattle.meaning.specs.Ast.{Name, dvar, ctx, self, DictName, var, Pred, Binder}
+use Rattle.meaning.specs.Ast.{dvar, ctx, self, DictName, var, Pred, Binder}
 use Rattle.meaning.specs.Budget.{Out, done}
 use Rattle.meaning.specs.Map.{tyvars, get}
 use Rattle.meaning.specs.Subst.{Subst, or-var, look, apply-preds, apply-preds-pending}
@@ -15,9 +14,9 @@ use Rattle.meaning.specs.Generalize.{preds-of}
 use Rattle.theorems.proofs.Says.{Says, Limit}
 use Rattle.theorems.proofs.Maps.{get-cons-same, get-cons-other}
 use Rattle.theorems.proofs.Applied.{preds-say}
-use Rattle.names.specs.Names.{Names, nameOf, tyvarOf}
+use Rattle.names.specs.Names.{Names, tyvarOf}
 use Rattle.names.proofs.Distinct.{tyvarOf-same}
-use Rattle.supers.specs.Rows.{rowAt, withRow, bindersFrom, bindersIn}
+use Rattle.supers.specs.Rows.{rowAt, withRow, bindersFrom}
 use Rattle.supers.specs.declared.rows.Row.{Row}
 use Rattle.supers.specs.declared.rows.Row.the-variants.{Pending, Replaced}
 use Rattle.scope.specs.Scope.{Small, Smalls, no-preds, one-more}

@@ -2,20 +2,20 @@
 use mathlib.Core.Path.{_≡_, refl, ap, sym, _∙_}
 use mathlib.Core.Bool.{Bool, true, false, not, _||_, _&&_, false≢true}
 use mathlib.Core.List.{List, [], _∷_}
-use mathlib.Core.Option.{none, some}
+use mathlib.Core.Option.{some}
 use Prim.Native.Nat.{ℕ, suc, _+_, _*_, _<_, _≤_}
 use native.Mathlib.Omega.{arith}
 use native.Mathlib.Numerals.{add-one}
 use lib.ListN.{length}
 use Rattle.meaning.specs.Base.{if, any, first}
-use Rattle.meaning.specs.Ast.{TyVar, Ty, var, con, arrow, Pred, pred, Binder}
-use Rattle.meaning.specs.Budget.{done, after}
+use Rattle.meaning.specs.Ast.{TyVar, Ty, var, con, arrow, Pred, Binder}
+use Rattle.meaning.specs.Budget.{after}
 use Rattle.meaning.specs.Map.{tyvars, elem}
 use Rattle.meaning.specs.Subst.{add, ftv-type, occurs}
 use Rattle.meaning.specs.Reduce.{is-head-normal}
 use Rattle.meaning.specs.Generalize.{env-ftv, preds-of, is-ambiguous, unless-ambiguous}
 use Rattle.theorems.proofs.FreeVars.{elem-ftv-type}
-use Rattle.names.specs.Names.{first-node, nameOf, tyvarOf}
+use Rattle.names.specs.Names.{first-node, tyvarOf}
 use Rattle.ast.specs.Table.{shapeOf, tree, Node}
 use Rattle.ast.specs.declared.Shape.{Shape}
 use Rattle.ast.specs.declared.Shape.the-variants.{Var, Con, Arrow}
@@ -37,6 +37,7 @@ use Rattle.generalize.specs.Tested.{strays, strayPred, strayRow, clearOf
 use Rattle.generalize.specs.Naming.{Unnamed, namedOut, NamedAs, GivesNames}
 use Rattle.generalize.specs.Generalizes.{AllVariable, Left, concludedOut, GivesConcluded}
 
+-- Nothing more than a test.
 or-false : (a : Bool) → (a || false) ≡ a
 or-false true = refl
 or-false false = refl
