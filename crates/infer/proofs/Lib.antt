@@ -7,3 +7,4 @@ pub mod Dispatch
 pub mod Bindings
 pub mod Bodies
 pub mod Parts
+pub mod First
