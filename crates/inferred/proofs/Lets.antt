@@ -72,7 +72,7 @@ module _ {ns w bs : List ℕ} {top left sp k₁ c t e k₂ nd m : ℕ} (R : Read
       one = joins let-join G
 
       -- They refuse.
-      pub let-last-lost : {f : Refusal} {n l : ℕ} → r ≡ A-Refused f n l → GivesC last-whole (2 * k₁ + 2 * k₂ + 8) ns w w₁ bs bs top left sp m (Refused f n l)
+      pub let-last-lost : {f : Refusal} {n l : ℕ} → r ≡ A-Refused f n l → GivesC last-whole (2 * k₁ + 2 * k₂ + 4) ns w w₁ bs bs top left sp m (Refused f n l)
       let-last-lost h = record { stands = one .stands; long = refl; answer = refuse-on last-then (lost one h) (omega arith) (omega arith) }
 
       module _ {k n l : ℕ} (h : r ≡ A-Done k n l) (len : length w₁ ≡ length w) (big : length w < 2 ^ 65) where
@@ -85,7 +85,7 @@ module _ {ns w bs : List ℕ} {top left sp k₁ c t e k₂ nd m : ℕ} (R : Read
         let-term q = let g = got one h .1 in push-bound ns (let-room .1 .0) (let-room .1 .1) (node-more (g .table) (g .more) (R .bound)) (node-more (g .table) (g .more) (R .term)) x q
 
         -- The answer.
-        pub let-last-closed : {w₂ : List ℕ} → w₂ ≡ pushedFour w₁ n 6 x c e → GivesC last-whole (2 * k₁ + 2 * k₂ + 8) ns w w₂ bs bs top left sp m (Done t (first-node + n) k (n + 1) l)
+        pub let-last-closed : {w₂ : List ℕ} → w₂ ≡ pushedFour w₁ n 6 x c e → GivesC last-whole (2 * k₁ + 2 * k₂ + 4) ns w w₂ bs bs top left sp m (Done t (first-node + n) k (n + 1) l)
         let-last-closed {w₂} q =
             let P = let-term q in
             let g = got one h .1 in let a = g .more in let b = g .spent in let z = R .room in let d = g .down in
@@ -140,7 +140,7 @@ module _ {ns w bs : List ℕ} {top left sp k₁ c t e k₂ nd m : ℕ} (R : Read
 
     module _ {w₁ bs₁ : List ℕ} {r : Swept} (G : GivesRows ns w w₁ bs bs₁ top left (sp - 2 * k₁ - 2 * k₂) k₂ nd r) (wide : length bs₁ ≡ length bs) where
       -- They refuse.
-      pub let-lost : {f : Refusal} {n l : ℕ} → r ≡ S-Refused f n l → GivesC let-whole (2 * k₁ + 2 * k₂ + 8) ns w w₁ bs bs₁ top left sp m (Refused f n l)
+      pub let-lost : {f : Refusal} {n l : ℕ} → r ≡ S-Refused f n l → GivesC let-whole (2 * k₁ + 2 * k₂ + 4) ns w w₁ bs bs₁ top left sp m (Refused f n l)
       let-lost h = let z = R .room in record { stands = stands-up (G .gives .stands) (omega arith); long = wide; answer = refuse-on let-then (rw h at (G .gives .answer)) (omega arith) (omega arith) }
 
       module _ {n l : ℕ} (h : r ≡ S-Done n l) (len : length w₁ ≡ length w) where
@@ -193,14 +193,14 @@ module _ {ns w bs : List ℕ} {top left sp k₁ c t e k₂ nd m : ℕ} (R : Read
 
         -- Its answer is the answer.
         pub let-closed : {w₂ : List ℕ} {q : Closed}
-            → GivesC (let-last (nameOf ns x) (subAt ns w₁ (sp - 2 * k₁ - 2 * k₂) k₂) (subAt ns w₁ (sp - 2 * k₁) k₁) (tree ns w₁ t) (bindersIn ns w₁ bs₁ 0 m) (core ns w₁ c) (core ns w₁ e) l) (2 * k₁ + 2 * k₂ + 8) ns w₁ w₂ bs₁ bs₁ n l sp m q
-            → GivesC let-whole (2 * k₁ + 2 * k₂ + 8) ns w w₂ bs bs₁ top left sp m q
+            → GivesC (let-last (nameOf ns x) (subAt ns w₁ (sp - 2 * k₁ - 2 * k₂) k₂) (subAt ns w₁ (sp - 2 * k₁) k₁) (tree ns w₁ t) (bindersIn ns w₁ bs₁ 0 m) (core ns w₁ c) (core ns w₁ e) l) (2 * k₁ + 2 * k₂ + 4) ns w₁ w₂ bs₁ bs₁ n l sp m q
+            → GivesC let-whole (2 * k₁ + 2 * k₂ + 4) ns w w₂ bs bs₁ top left sp m q
         let-closed {w₂} {q} H =
             let S = swept in let s = S .spent in let d = S .down in let z = R .room in let U = G .gives .stands in let T = R .ty .table in
             record {
               stands = stands-then (stands-up U (omega arith)) (H .stands) (S .more);
               long = wide;
-              answer = closed-answer _ _ (2 * k₁ + 2 * k₂ + 8) (2 * k₁ + 2 * k₂ + 8) ns w₂ bs₁ top left n l sp m q
+              answer = closed-answer _ _ (2 * k₁ + 2 * k₂ + 4) (2 * k₁ + 2 * k₂ + 4) ns w₂ bs₁ top left n l sp m q
                   (then-done _ l let-then (S .is) ∙ rw (
                     sub-stands ns T U (R .self .sub) (omega arith),
                     sub-stands ns T U (R .other .sub) (omega arith),

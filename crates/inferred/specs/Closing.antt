@@ -89,7 +89,7 @@ pub record ReadyLet (ns w bs : List ℕ) (top left sp k₁ c t e k₂ nd m : ℕ
   pub other : Region ns w top sp k₁
   pub pending : PendingRows w bs top m
   pub few : nd ≤ m
-  pub room : 4 * top + 8 * left + 2 * k₁ + 2 * k₂ + 8 ≤ sp
+  pub room : 4 * top + 8 * left + 2 * k₁ + 2 * k₂ + 4 ≤ sp
   pub fits : sp ≤ length w
 
 -- A literal is inferred: no pairs, no rows.

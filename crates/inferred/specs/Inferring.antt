@@ -8,6 +8,7 @@ use Rattle.meaning.specs.Budget.{Out, done}
 use Rattle.meaning.specs.Classes.{ClassEnv}
 use Rattle.meaning.specs.Infer as M
 use Rattle.names.specs.Names.{Names}
+use Rattle.ast.specs.Table.{Table}
 use Rattle.rows.specs.BuiltIns.{BuiltIns}
 use Rattle.errors.specs.Refusals.{Refuses}
 use Rattle.pairs.specs.Pairs.{Stands}
@@ -40,6 +41,7 @@ pub record Still (ns w cl mt il : List ℕ) (top : ℕ) (ce : ClassEnv) : Type 0
 pub record ReadyI (x y z : ℕ) (ns w ev od il bs : List ℕ) (top left sp tv dv : ℕ) : Type 0 where
   pub names : Names ns
   pub built : BuiltIns ns
+  pub table : Table w top
   pub scope : Scope ns w ev od top
   pub all : length od ≡ 1_059
   pub heads : Heads w top il

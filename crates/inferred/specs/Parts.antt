@@ -1,5 +1,6 @@
 -- 000's `infer_abs`, `infer_app` and `infer_let`, cut where a part has been inferred: what is left to do then.
 use mathlib.Core.List.{List, _++_}
+use mathlib.Core.Option.{Option}
 use Rattle.meaning.specs.Ast.{Name, TyVar, Ty, var, arrow, Scheme, Expr, Core, cabs, capp, clet}
 use Rattle.meaning.specs.Budget.{Out, done, Steps, after}
 use Rattle.meaning.specs.Subst.{Subst, apply-type, apply-preds-pending, compose}
@@ -50,6 +51,13 @@ abs-body infer x a body = do
   _ ← env-restore x prev
   lift (abs-close x a r)
 
+-- The same after the parameter's scheme was inserted: prev is what stood there.
+unfoldable pub abs-rest : (Expr → Run Inferred) → Name → TyVar → Option Scheme → Expr → Run Inferred
+abs-rest infer x a prev body = do
+  r ← infer body
+  _ ← env-restore x prev
+  lift (abs-close x a r)
+
 -- An application after the function.
 unfoldable pub app-arg : (Expr → Run Inferred) → TyVar → Inferred → Expr → Run Inferred
 app-arg infer a f x = do
@@ -64,6 +72,13 @@ let-body infer v s₁ g e₂ = do
   r ← infer e₂
   _ ← env-restore v prev
   lift (let-close v s₁ (g .1) (g .2) r)
+
+-- The same after the scheme was inserted: prev is what stood there.
+unfoldable pub let-rest : (Expr → Run Inferred) → Name → Subst → Core → Pending → Option Scheme → Expr → Run Inferred
+let-rest infer v s₁ c₁ deferred prev e₂ = do
+  r ← infer e₂
+  _ ← env-restore v prev
+  lift (let-close v s₁ c₁ deferred r)
 
 -- What it binds, generalized.
 unfoldable pub let-general : ClassEnv → Inferred → Run (Scheme × Core × Pending)

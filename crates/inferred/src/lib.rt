@@ -209,7 +209,7 @@ fn let_last(
     requires { ⌜ ReadyLet (now names) (now base ++ now work) (now binders) top left sp k1 c t e k2 m m ⌝ }
     ensures { λ r. ⌜ GivesC (let-last (nameOf (now (names .entry)) x) (subAt (now (names .entry)) (now (base .entry) ++ now (work .entry)) (sp - 2 * k1 - 2 * k2) k2) (subAt (now (names .entry)) (now (base .entry) ++ now (work .entry)) (sp - 2 * k1) k1)
         (tree (now (names .entry)) (now (base .entry) ++ now (work .entry)) t) (bindersIn (now (names .entry)) (now (base .entry) ++ now (work .entry)) (now (binders .entry)) 0 m)
-        (core (now (names .entry)) (now (base .entry) ++ now (work .entry)) c) (core (now (names .entry)) (now (base .entry) ++ now (work .entry)) e) left) (2 * k1 + 2 * k2 + 8)
+        (core (now (names .entry)) (now (base .entry) ++ now (work .entry)) c) (core (now (names .entry)) (now (base .entry) ++ now (work .entry)) e) left) (2 * k1 + 2 * k2 + 4)
         (now (names .entry)) (now (base .entry) ++ now (work .entry)) (now (base .entry) ++ now (work .exit)) (now (binders .entry)) (now (binders .entry)) top left sp m r ⌝ }
 {
     let lo = sp - 2 * k1 - 2 * k2;
@@ -245,7 +245,7 @@ pub fn let_close(
     requires { ⌜ length (now base) ≤ 4 * top ⌝ }
     requires { ⌜ ReadyLet (now names) (now base ++ now work) (now binders) top left sp k1 c t e k2 nd m ⌝ }
     ensures { λ r. ⌜ GivesC (let-close (nameOf (now (names .entry)) x) (subAt (now (names .entry)) (now (base .entry) ++ now (work .entry)) (sp - 2 * k1) k1) (core (now (names .entry)) (now (base .entry) ++ now (work .entry)) c) (bindersIn (now (names .entry)) (now (base .entry) ++ now (work .entry)) (now (binders .entry)) 0 nd)
-        (answerFrom (now (names .entry)) (now (base .entry) ++ now (work .entry)) (now (binders .entry)) (sp - 2 * k1) t e k2 nd m) left) (2 * k1 + 2 * k2 + 8)
+        (answerFrom (now (names .entry)) (now (base .entry) ++ now (work .entry)) (now (binders .entry)) (sp - 2 * k1) t e k2 nd m) left) (2 * k1 + 2 * k2 + 4)
         (now (names .entry)) (now (base .entry) ++ now (work .entry)) (now (base .entry) ++ now (work .exit)) (now (binders .entry)) (now (binders .exit)) top left sp m r ⌝ }
 {
     let lo = sp - 2 * k1 - 2 * k2;

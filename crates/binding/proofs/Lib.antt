@@ -1,0 +1,2 @@
+pub mod AfterEnv
+pub mod AfterRows

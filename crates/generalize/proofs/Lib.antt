@@ -1,0 +1,5 @@
+pub mod Again
+pub mod Smallness
+pub mod QualWays
+pub mod NameWays
+pub mod TestWays

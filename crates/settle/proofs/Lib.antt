@@ -1,0 +1,12 @@
+pub mod Halves
+pub mod Lists
+pub mod Found
+pub mod Cut
+pub mod Staged
+pub mod Apart
+pub mod Tied
+pub mod Fine
+pub mod Parts
+pub mod Course
+pub mod Settling
+pub mod Uses
