@@ -50,7 +50,20 @@ fn check_end(
         (now (env .entry)) (now (order .entry)) (now (binders .entry)) (now (binders .exit)) top left sp tv dv r ⌝ }
 {
     let at = sp - 2 * k;
-    let f = generalize::finalize(base, work, names, classes, insts, binders, top, left, at, m, t, e);
+    let f = generalize::finalize(
+        base,
+        work,
+        names,
+        classes,
+        insts,
+        binders,
+        top,
+        left,
+        at,
+        m,
+        t,
+        e,
+    );
     match f {
         Finalized::Done(ps, u, c, t2, l2) => Checked::Done(ps, u, c, t2, l2, tv, dv),
         Finalized::Refused(q, t2, l2) => Checked::Refused(q, t2, l2),
@@ -85,7 +98,25 @@ fn check_rows(
     let at = sp - 2 * k;
     let s = pending::apply_rows(base, work, names, binders, top, left, at, k, m);
     match s {
-        Swept::Done(t2, l2) => check_end(base, work, names, classes, insts, order, env, binders, t2, l2, sp, tv, dv, t, e, k, m),
+        Swept::Done(t2, l2) => check_end(
+            base,
+            work,
+            names,
+            classes,
+            insts,
+            order,
+            env,
+            binders,
+            t2,
+            l2,
+            sp,
+            tv,
+            dv,
+            t,
+            e,
+            k,
+            m,
+        ),
         Swept::Refused(q, t2, l2) => Checked::Refused(q, t2, l2),
     }
 }
@@ -118,7 +149,25 @@ fn check_after(
     let at = sp - 2 * k;
     let a = apply::apply(base, work, names, top, left, DEPTH, at, k, t);
     match a {
-        Applied::Done(u, t2, l2) => check_rows(base, work, names, classes, insts, order, env, binders, t2, l2, sp, tv, dv, u, e, k, m),
+        Applied::Done(u, t2, l2) => check_rows(
+            base,
+            work,
+            names,
+            classes,
+            insts,
+            order,
+            env,
+            binders,
+            t2,
+            l2,
+            sp,
+            tv,
+            dv,
+            u,
+            e,
+            k,
+            m,
+        ),
         Applied::Refused(q, t2, l2) => Checked::Refused(q, t2, l2),
     }
 }
@@ -148,9 +197,46 @@ pub fn check(
     ensures { λ r. ⌜ GivesK (Asked (now (src .entry)) (now (names .entry)) (now (index .entry)) (now (base .entry) ++ now (work .entry)) (now (classes .entry)) (now (methods .entry)) (now (insts .entry)) (now (env .entry)) (now (order .entry)) top i) (λ p. check-expr (p .0) (p .1) (stateOf (now (names .entry)) (now (base .entry) ++ now (work .entry)) (now (env .entry)) (now (order .entry)) tv dv) left) (now (names .entry)) (now (base .entry) ++ now (work .entry)) (now (base .entry) ++ now (work .exit))
         (now (env .exit)) (now (order .entry)) (now (binders .entry)) (now (binders .exit)) top left sp tv dv r ⌝ }
 {
-    let q = infer::infer(base, work, names, src, index, classes, methods, insts, order, env, binders, top, left, DEPTH, sp, tv, dv, i);
+    let q = infer::infer(
+        base,
+        work,
+        names,
+        src,
+        index,
+        classes,
+        methods,
+        insts,
+        order,
+        env,
+        binders,
+        top,
+        left,
+        DEPTH,
+        sp,
+        tv,
+        dv,
+        i,
+    );
     match q {
-        Inferred::Done(t, e, k, m, t2, l2, tv2, dv2) => check_after(base, work, names, classes, insts, order, env, binders, t2, l2, sp, tv2, dv2, t, e, k, m),
+        Inferred::Done(t, e, k, m, t2, l2, tv2, dv2) => check_after(
+            base,
+            work,
+            names,
+            classes,
+            insts,
+            order,
+            env,
+            binders,
+            t2,
+            l2,
+            sp,
+            tv2,
+            dv2,
+            t,
+            e,
+            k,
+            m,
+        ),
         Inferred::Refused(q, t2, l2) => Checked::Refused(q, t2, l2),
     }
 }

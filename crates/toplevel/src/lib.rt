@@ -1,6 +1,5 @@
 // `process_let_decl` of 000: an expression is inferred, generalized, and its scheme gets the row of a name.
 pub mod checks;
-
 use apply::Applied;
 use errors::Refusal;
 use generalize::Generalized;
@@ -81,7 +80,21 @@ fn let_end(
     ensures { λ r. ⌜ EndsB Nothing (λ _. let-end (nameOf (now (names .entry)) x) (schemeOf (now (names .entry)) (now (base .entry) ++ now (work .entry)) vs ps t) (bindersIn (now (names .entry)) (now (base .entry) ++ now (work .entry)) (now (binders .entry)) 0 nd) (stateOf (now (names .entry)) (now (base .entry) ++ now (work .entry)) (now (env .entry)) (now (order .entry)) tv dv) left) (now (names .entry)) (now (base .entry) ++ now (work .entry)) (now (env .exit)) (now (order .entry)) top left tv dv r ⌝ }
 {
     if nd == 0 {
-        return let_put(base, work, names, order, env, top, left, tv, dv, x, vs, ps, t);
+        return let_put(
+            base,
+            work,
+            names,
+            order,
+            env,
+            top,
+            left,
+            tv,
+            dv,
+            x,
+            vs,
+            ps,
+            t,
+        );
     }
     let q = supers::rows::row_at(binders, 0);
     match q {
@@ -118,9 +131,40 @@ fn let_general(
         (now (env .exit)) (now (order .entry)) (now (binders .entry)) (now (binders .exit)) top left sp tv dv r ⌝ }
 {
     let at = sp - 2 * k;
-    let g = generalize::generalize(base, work, names, classes, insts, env, order, binders, top, left, at, m, t, e);
+    let g = generalize::generalize(
+        base,
+        work,
+        names,
+        classes,
+        insts,
+        env,
+        order,
+        binders,
+        top,
+        left,
+        at,
+        m,
+        t,
+        e,
+    );
     match g {
-        Generalized::Done(vs, ps, u, _, nd, t2, l2) => let_end(base, work, names, order, env, binders, t2, l2, tv, dv, x, vs, ps, u, nd),
+        Generalized::Done(vs, ps, u, _, nd, t2, l2) => let_end(
+            base,
+            work,
+            names,
+            order,
+            env,
+            binders,
+            t2,
+            l2,
+            tv,
+            dv,
+            x,
+            vs,
+            ps,
+            u,
+            nd,
+        ),
         Generalized::Refused(q, t2, l2) => Bound::Refused(q, t2, l2),
     }
 }
@@ -155,7 +199,26 @@ fn let_typed(
     let at = sp - 2 * k;
     let a = apply::apply(base, work, names, top, left, DEPTH, at, k, t);
     match a {
-        Applied::Done(u, t2, l2) => let_general(base, work, names, classes, insts, order, env, binders, t2, l2, sp, tv, dv, x, u, e, k, m),
+        Applied::Done(u, t2, l2) => let_general(
+            base,
+            work,
+            names,
+            classes,
+            insts,
+            order,
+            env,
+            binders,
+            t2,
+            l2,
+            sp,
+            tv,
+            dv,
+            x,
+            u,
+            e,
+            k,
+            m,
+        ),
         Applied::Refused(q, t2, l2) => Bound::Refused(q, t2, l2),
     }
 }
@@ -190,7 +253,26 @@ fn let_after(
     let at = sp - 2 * k;
     let s = pending::apply_rows(base, work, names, binders, top, left, at, k, m);
     match s {
-        Swept::Done(t2, l2) => let_typed(base, work, names, classes, insts, order, env, binders, t2, l2, sp, tv, dv, x, t, e, k, m),
+        Swept::Done(t2, l2) => let_typed(
+            base,
+            work,
+            names,
+            classes,
+            insts,
+            order,
+            env,
+            binders,
+            t2,
+            l2,
+            sp,
+            tv,
+            dv,
+            x,
+            t,
+            e,
+            k,
+            m,
+        ),
         Swept::Refused(q, t2, l2) => Bound::Refused(q, t2, l2),
     }
 }
@@ -222,9 +304,47 @@ pub fn process_let(
     ensures { λ r. ⌜ GivesB (Asked (now (src .entry)) (now (names .entry)) (now (index .entry)) (now (base .entry) ++ now (work .entry)) (now (classes .entry)) (now (methods .entry)) (now (insts .entry)) (now (env .entry)) (now (order .entry)) top i) (λ p. process-let-decl (p .0) (nameOf (now (names .entry)) x) (p .1) (stateOf (now (names .entry)) (now (base .entry) ++ now (work .entry)) (now (env .entry)) (now (order .entry)) tv dv) left) (now (names .entry)) (now (base .entry) ++ now (work .entry)) (now (base .entry) ++ now (work .exit))
         (now (env .exit)) (now (order .entry)) (now (binders .entry)) (now (binders .exit)) top left sp tv dv r ⌝ }
 {
-    let q = infer::infer(base, work, names, src, index, classes, methods, insts, order, env, binders, top, left, DEPTH, sp, tv, dv, i);
+    let q = infer::infer(
+        base,
+        work,
+        names,
+        src,
+        index,
+        classes,
+        methods,
+        insts,
+        order,
+        env,
+        binders,
+        top,
+        left,
+        DEPTH,
+        sp,
+        tv,
+        dv,
+        i,
+    );
     match q {
-        Inferred::Done(t, e, k, m, t2, l2, tv2, dv2) => let_after(base, work, names, classes, insts, order, env, binders, t2, l2, sp, tv2, dv2, x, t, e, k, m),
+        Inferred::Done(t, e, k, m, t2, l2, tv2, dv2) => let_after(
+            base,
+            work,
+            names,
+            classes,
+            insts,
+            order,
+            env,
+            binders,
+            t2,
+            l2,
+            sp,
+            tv2,
+            dv2,
+            x,
+            t,
+            e,
+            k,
+            m,
+        ),
         Inferred::Refused(q, t2, l2) => Bound::Refused(q, t2, l2),
     }
 }
