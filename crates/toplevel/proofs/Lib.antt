@@ -1,0 +1,4 @@
+pub mod Moves
+pub mod Puts
+pub mod Ways
+pub mod Lasts
