@@ -5,7 +5,7 @@ use mathlib.Core.Option.{Option, none, some}
 use Prim.Native.Nat.{ℕ, _+_, _*_, _<_, _≤_}
 use native.Mathlib.Omega.{arith}
 use lib.ListN.{length, getD}
-use Rattle.meaning.specs.Base.{nth}
+use Rattle.meaning.specs.Base.{nth, count}
 use Rattle.meaning.specs.Ast.{Expr}
 use Rattle.meaning.specs.Map.{get}
 use Rattle.meaning.specs.Classes.{ClassEnv, ClassInfo, InstanceInfo, no-classes}
@@ -26,7 +26,7 @@ use Rattle.infer.specs.Asking.{Asked}
 
 -- Tables of zeros and no words of instances stand for no classes and no instances.
 pub no-still : (ns w cl mt : List ℕ) (top : ℕ) → ((j : ℕ) → getD cl j 0 ≡ 0) → ((j : ℕ) → getD mt j 0 ≡ 0) → Still ns w cl mt [] top no-classes
-unfolding nth
+unfolding nth count
 no-still ns w cl mt top c m = record {
   declared = record { supers = empty-supers cl c ns; instances = record { many = refl; each = λ i inst e. absurd (none-some inst e) } };
   methods = empty-methods mt m ns w top;
