@@ -1,5 +1,6 @@
 // `process_let_decl` of 000: an expression is inferred, generalized, and its scheme gets the row of a name.
 pub mod checks;
+
 use apply::Applied;
 use errors::Refusal;
 use generalize::Generalized;
