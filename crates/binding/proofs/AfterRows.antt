@@ -34,7 +34,7 @@ use Rattle.generalize.specs.declared.Generalized.{Generalized}
 use Rattle.generalize.specs.declared.Generalized.the-variants.{Done, Refused}
 use Rattle.inferred.specs.Closing.{answerOf}
 use Rattle.inferred.specs.Inferring.{stateOf}
-use Rattle.inferred.proofs.Cuts.{after-after}
+use Rattle.compose.proofs.Hand.{after-after}
 use Rattle.inferred.proofs.Ends.{row-type}
 use Rattle.binding.specs.General.{ReadyMid, AskedGeneral, AnswerG, GivesG}
 use Rattle.binding.specs.Rest.{general-rest}

@@ -29,7 +29,7 @@ use Rattle.canonical.proofs.Chosen.{no-place, place-later, place-first,
 
 -- ## such a substitution
 -- The words ls become the letters from the k-th on.
-unfoldable letters-from : List ℕ → ℕ → List ℕ → Subst
+unfoldable pub letters-from : List ℕ → ℕ → List ℕ → Subst
 letters-from ns k [] = []
 letters-from ns k (x ∷ ls) = (tyvarOf ns x, var (tyvarOf ns (9 + k))) ∷ letters-from ns (suc k) ls
 
@@ -48,7 +48,7 @@ look-letters {ns} N k (y ∷ ls) x = go (ℕ-discrete y x) (look-letters N (suc 
         ∙ ih ∙ ap (λ (z : ℕ). var (tyvarOf ns z)) (place-later k x (posAt ls x) ∙ ap (orWord (9 + k) x) (sym (place-other y x ls n)))
 
 -- So there is one.
-letters-there : {ns : List ℕ} (w ls : List ℕ) → Names ns → Letters ns w ls (letters-from ns 0 ls)
+pub letters-there : {ns : List ℕ} (w ls : List ℕ) → Names ns → Letters ns w ls (letters-from ns 0 ls)
 unfolding renamedWord
 letters-there {ns} w ls N = record { at = λ x. look-letters N 0 ls x ∙ rw (no-place w x) refl }
 

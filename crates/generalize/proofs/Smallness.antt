@@ -1,56 +1,27 @@
 -- Renamed rows keep their dictionaries and classes. It is said of the words alone: there is always a substitution that does the
 -- same as some words that become letters.
-use mathlib.Core.Path.{_≡_, refl, ap, sym, _∙_, subst}
+use mathlib.Core.Path.{_≡_, refl, sym, subst}
 use mathlib.Core.List.{List, [], _∷_}
 use Prim.Native.Nat.{ℕ, zero, suc, _+_, _<_, _≤_}
 use native.Mathlib.Omega.{arith}
 use native.Mathlib.Decide.{ℕ-discrete}
-use Rattle.meaning.specs.Ast.{dvar, ctx, self, DictName, var, Pred, Binder}
+use Rattle.meaning.specs.Ast.{dvar, ctx, self, DictName, Pred, Binder}
 use Rattle.meaning.specs.Budget.{Out, done}
-use Rattle.meaning.specs.Map.{tyvars, get}
-use Rattle.meaning.specs.Subst.{Subst, or-var, look, apply-preds, apply-preds-pending}
+use Rattle.meaning.specs.Subst.{Subst, look, apply-preds, apply-preds-pending}
 use Rattle.meaning.specs.Plain.{Fill, sub-preds}
 use Rattle.meaning.specs.Generalize.{preds-of}
 use Rattle.theorems.proofs.Says.{Says, Limit}
-use Rattle.theorems.proofs.Maps.{get-cons-same, get-cons-other}
 use Rattle.theorems.proofs.Applied.{preds-say}
-use Rattle.names.specs.Names.{Names, tyvarOf}
-use Rattle.names.proofs.Distinct.{tyvarOf-same}
+use Rattle.names.specs.Names.{Names}
 use Rattle.supers.specs.Rows.{rowAt, withRow, bindersFrom}
 use Rattle.supers.specs.declared.rows.Row.{Row}
 use Rattle.supers.specs.declared.rows.Row.the-variants.{Pending, Replaced}
 use Rattle.scope.specs.Scope.{Small, Smalls, no-preds, one-more}
 use Rattle.scope.proofs.Fines.{small-number}
-use Rattle.rename.specs.Renaming.{posAt, orWord, renamedWord}
 use Rattle.canonical.specs.Rows.{Letters}
-use Rattle.canonical.proofs.Chosen.{no-place, place-later, place-first, place-other}
+use Rattle.canonical.proofs.SameLeaves.{letters-from, letters-there}
 use Rattle.canoncore.specs.RowsReady.{SmallRow}
 use Rattle.generalize.proofs.Again.{sub-pending, pending-says}
-
--- ## such a substitution
--- The words ls become the letters from the k-th on.
-unfoldable pub letters-from : List ℕ → ℕ → List ℕ → Subst
-letters-from ns k [] = []
-letters-from ns k (x ∷ ls) = (tyvarOf ns x, var (tyvarOf ns (9 + k))) ∷ letters-from ns (suc k) ls
-
--- It does to each variable what is done to its word.
-look-letters : {ns : List ℕ} → Names ns → (k : ℕ) (ls : List ℕ) (x : ℕ) → look (letters-from ns k ls) (tyvarOf ns x) ≡ var (tyvarOf ns (orWord (9 + k) x (posAt ls x)))
-unfolding letters-from posAt or-var get
-look-letters N k [] x = refl
-look-letters {ns} N k (y ∷ ls) x = go (ℕ-discrete y x) (look-letters N (suc k) ls x)
-  where
-    go : Dec (y ≡ x) → look (letters-from ns (suc k) ls) (tyvarOf ns x) ≡ var (tyvarOf ns (orWord (9 + suc k) x (posAt ls x)))
-        → look (letters-from ns k (y ∷ ls)) (tyvarOf ns x) ≡ var (tyvarOf ns (orWord (9 + k) x (posAt (y ∷ ls) x)))
-    go (yes e) ih =
-        rw e (ap (or-var (tyvarOf ns x)) (get-cons-same tyvars (tyvarOf ns x) (var (tyvarOf ns (9 + k))) (letters-from ns (suc k) ls)) ∙ ap (λ (z : ℕ). var (tyvarOf ns z)) (sym (place-first k x ls)))
-    go (no n) ih =
-        ap (or-var (tyvarOf ns x)) (get-cons-other tyvars (tyvarOf ns x) (tyvarOf ns y) (var (tyvarOf ns (9 + k))) (letters-from ns (suc k) ls) (λ j. n (sym (tyvarOf-same ns N x y j))))
-        ∙ ih ∙ ap (λ (z : ℕ). var (tyvarOf ns z)) (place-later k x (posAt ls x) ∙ ap (orWord (9 + k) x) (sym (place-other y x ls n)))
-
--- So there is one.
-pub letters-there : {ns : List ℕ} (w ls : List ℕ) → Names ns → Letters ns w ls (letters-from ns 0 ls)
-unfolding renamedWord
-letters-there {ns} w ls N = record { at = λ x. look-letters N 0 ls x ∙ rw (no-place w x) refl }
 
 -- ## binders of rows
 -- A dictionary's number that fits beside a class.

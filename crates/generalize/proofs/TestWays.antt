@@ -14,7 +14,6 @@ use Rattle.meaning.specs.Map.{tyvars, elem}
 use Rattle.meaning.specs.Subst.{add, ftv-type, occurs}
 use Rattle.meaning.specs.Reduce.{is-head-normal}
 use Rattle.meaning.specs.Generalize.{env-ftv, preds-of, is-ambiguous, unless-ambiguous}
-use Rattle.theorems.proofs.FreeVars.{elem-ftv-type}
 use Rattle.names.specs.Names.{first-node, tyvarOf}
 use Rattle.ast.specs.Table.{shapeOf, tree, Node}
 use Rattle.ast.specs.declared.Shape.{Shape}
@@ -28,6 +27,7 @@ use Rattle.supers.specs.declared.rows.Row.{Row}
 use Rattle.supers.specs.declared.rows.Row.the-variants.{Pending, Replaced}
 use Rattle.supers.proofs.RowLaws.{row-step, rows-end}
 use Rattle.scope.specs.Scope.{envOf}
+use Rattle.pending.proofs.Owns.{type-has}
 use Rattle.canonical.specs.Named.{rowsQual}
 use Rattle.generalize.specs.declared.clear.Clear.{Clear}
 use Rattle.generalize.specs.declared.clear.Clear.the-variants.{All, First}
@@ -43,11 +43,6 @@ or-false true = refl
 or-false false = refl
 
 -- ## `is_lost`
--- The variables of a type are those that occur in it.
-type-has : (x : TyVar) (a : Ty) → elem tyvars x (ftv-type a []) ≡ occurs x a
-unfolding elem
-type-has x a = elem-ftv-type x a [] ∙ or-false (occurs x a)
-
 -- The type has the variable.
 pub lost-not : (a : Ty) (es : List TyVar) (x : TyVar) → true ≡ occurs x a → false ≡ strays (ftv-type a []) es (var x)
 unfolding strays

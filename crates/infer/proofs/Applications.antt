@@ -33,7 +33,8 @@ use Rattle.inferred.proofs.Ends.{rows-same, region-later}
 use Rattle.infer.specs.Runs.{Nothing, inferred-then, closed-app}
 use Rattle.infer.specs.Asking.{Asked, AskedTwo, AskedAfter, ReadyArg, ReadyAppEnd, GivesO}
 use Rattle.infer.proofs.Handing.{Via, handed, lost-on, got, lost}
-use Rattle.infer.proofs.Standing.{still-kept, says-done, inferred-fit, rows-from, rows-both, rows-stand}
+use Rattle.binding.proofs.AfterEnv.{says-done}
+use Rattle.infer.proofs.Standing.{still-kept, inferred-fit, rows-from, rows-both, rows-stand}
 
 -- ## app
 

@@ -35,7 +35,8 @@ use Rattle.infer.specs.Asking.{Asked, AskedLet, AskedMid, AskedBody, Rea
 use Rattle.generalize.specs.declared.Generalized.{Generalized}
 use Rattle.generalize.specs.declared.Generalized.the-variants.{Done as G-Done, Refused as G-Refused}
 use Rattle.infer.proofs.Handing.{Via, handed, lost-on, got, lost}
-use Rattle.infer.proofs.Standing.{still-kept, says-done, inferred-fit}
+use Rattle.binding.proofs.AfterEnv.{says-done}
+use Rattle.infer.proofs.Standing.{still-kept, inferred-fit}
 
 -- ## binding
 

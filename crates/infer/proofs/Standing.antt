@@ -7,10 +7,9 @@ use native.Mathlib.Decide.{decLt}
 use lib.ListN.{length, getD, drop}
 use lib.Seq.{getD-drop}
 use Rattle.meaning.specs.Ast.{Expr}
-use Rattle.meaning.specs.Budget.{Out, done}
+use Rattle.meaning.specs.Budget.{done}
 use Rattle.meaning.specs.Classes.{ClassEnv}
 use Rattle.meaning.specs.Infer as M
-use Rattle.theorems.proofs.Says.{Says, Any}
 use Rattle.theorems.proofs.Made.{MadeEnv}
 use Rattle.theorems.proofs.InferMade.{infer-made}
 use Rattle.theorems.proofs.DictNames.{infer-names}
@@ -20,21 +19,18 @@ use Rattle.resolve.proofs.Goals.{declared-kept}
 use Rattle.classes.proofs.Looking.{methods-kept}
 use Rattle.reduce.proofs.Marks.{row-same}
 use Rattle.pending.specs.Rows.{PendingRow, PendingRows}
-use Rattle.pending.proofs.Loops.{same-rows}
+use Rattle.simplify.proofs.RowSets.{same-rows}
 use Rattle.inferred.specs.Inferring.{Still}
 use Rattle.inferred.specs.declared.Inferred.{Inferred}
 use Rattle.inferred.proofs.Ends.{row-later}
 use Rattle.binding.specs.General.{Fit}
+use Rattle.binding.proofs.AfterEnv.{says-done}
 
 -- ## What stands
 
 -- The class environment is still what the words stand for.
 pub still-kept : {ns w w′ cl mt il : List ℕ} {top top′ : ℕ} {ce : ClassEnv} → Kept w w′ top → Table w′ top′ → top ≤ top′ → Still ns w cl mt il top ce → Still ns w′ cl mt il top′ ce
 still-kept K T h S = record { declared = declared-kept K T h (S .declared); methods = methods-kept K T h (S .methods) }
-
--- What holds of an outcome that is an answer.
-pub says-done : {A : Type 0} (P : A → Type 0) {o : Out A} (a : A) (n : ℕ) → o ≡ done a n → Says P Any o → P a
-says-done P a n e h = rw e at h
 
 -- What was inferred is fit.
 pub inferred-fit : (d : ℕ) (ce : ClassEnv) (x : Expr) (st : M.State) (n : ℕ) {r : M.Inferred} {st′ : M.State} {l : ℕ} → MadeEnv (st .env) → M.infer-in d ce x st n ≡ done (r, st′) l → Fit r st′

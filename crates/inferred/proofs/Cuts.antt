@@ -9,14 +9,9 @@ use Rattle.meaning.specs.Unify.{unify}
 use Rattle.meaning.specs.Classes.{ClassEnv}
 use Rattle.meaning.specs.Generalize.{Pending, generalize-binding}
 use Rattle.meaning.specs.Infer.{State, Run, _>>=_, pure, lift, fresh-tyvar, ask-env, env-insert, env-restore, apply-env, mono, Inferred, infer-abs, infer-app, infer-let}
+use Rattle.compose.proofs.Hand.{after-after}
 use Rattle.ends.specs.Ends.{joined}
 use Rattle.inferred.specs.Parts.{abs-close, app-last, app-close, let-close, abs-body, app-arg, let-body, let-general, let-mid}
-
--- What follows twice is what follows once.
-pub after-after : {A B C : Type 0} (o : Out A) (f : A → Steps B) (g : B → Steps C) → after (after o f) g ≡ after o (λ a n. after (f a n) g)
-unfolding after
-after-after (done a n) f g = refl
-after-after (refused r n) f g = refl
 
 -- Under what follows.
 pub after-same : {A B : Type 0} (o : Out A) (f g : A → Steps B) → ((a : A) (n : ℕ) → f a n ≡ g a n) → after o f ≡ after o g

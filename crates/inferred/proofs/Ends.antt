@@ -35,7 +35,7 @@ use Rattle.inferred.specs.Parts.{abs-close, app-rows}
 use Rattle.inferred.specs.Closing.{Region, answerOf, ReadyAbs, ReadyLast, AnswerC, GivesC}
 use Rattle.inferred.specs.declared.Closed.{Closed}
 use Rattle.inferred.specs.declared.Closed.the-variants.{Done, Refused}
-use Rattle.inferred.proofs.Cuts.{after-after}
+use Rattle.compose.proofs.Hand.{after-after}
 
 -- ## Words that stand
 

@@ -28,7 +28,8 @@ use Rattle.inferred.specs.Parts.{app-last, app-rows, app-close}
 use Rattle.inferred.specs.Closing.{answerFrom, answerOf, ReadyLast, ReadyApp, GivesC}
 use Rattle.inferred.specs.declared.Closed.{Closed}
 use Rattle.inferred.specs.declared.Closed.the-variants.{Refused}
-use Rattle.inferred.proofs.Cuts.{after-after, after-same}
+use Rattle.compose.proofs.Hand.{after-after}
+use Rattle.inferred.proofs.Cuts.{after-same}
 use Rattle.inferred.proofs.Ends.{rows-later, rows-same, closed-answer}
 
 -- A list before what is applied, and then the rest of the block.

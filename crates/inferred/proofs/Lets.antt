@@ -33,7 +33,8 @@ use Rattle.pending.specs.Rows.{PendingRow, PendingRows}
 use Rattle.pending.specs.Swept.{ReadySweep, RowsSwept, GivesRows}
 use Rattle.pending.specs.declared.Swept.{Swept}
 use Rattle.pending.specs.declared.Swept.the-variants.{Done as S-Done, Refused as S-Refused}
-use Rattle.pending.proofs.Loops.{same-rows, binders-split}
+use Rattle.simplify.proofs.RowSets.{same-rows}
+use Rattle.pending.proofs.Loops.{binders-split}
 use Rattle.inferred.specs.Parts.{let-last, let-close}
 use Rattle.inferred.specs.Closing.{answerFrom, ReadyLet, GivesC}
 use Rattle.inferred.specs.declared.Closed.{Closed}

@@ -2,7 +2,7 @@
 use mathlib.Core.Path.{_≡_, refl, ap, sym, subst, _∙_}
 use mathlib.Core.Bool.{Bool, true, false}
 use mathlib.Core.List.{List, [], _∷_, _++_, append-nil}
-use mathlib.Core.Option.{none, some}
+use mathlib.Core.Option.{none}
 use Prim.Native.Nat.{ℕ, suc, _+_, _*_, _-_, _<_, _≤_}
 use native.Mathlib.Omega.{arith}
 use native.Mathlib.Decide.{ℕ-discrete, decLt}
@@ -20,9 +20,10 @@ use Rattle.reduce.proofs.Marks.{row-same}
 use Rattle.pending.specs.declared.own.Twin.{Twin}
 use Rattle.pending.specs.declared.own.Twin.the-variants.{At, Nothing}
 use Rattle.pending.specs.Rows.{putRow}
-use Rattle.pending.specs.Owned.{firstOf, addFirst, firstsFrom, firsts, owns, ReadyOwn, FindsEarlier, Settled, GivesSettled, Aliased, GivesAliased}
+use Rattle.pending.specs.Owned.{firstOf, firstsFrom, firsts, owns, ReadyOwn, FindsEarlier, Settled, GivesSettled, Aliased, GivesAliased}
 use Rattle.pending.proofs.Puts.{put-here, put-before, put-behind}
-use Rattle.pending.proofs.Loops.{same-rows, binders-split, binders-snoc}
+use Rattle.simplify.proofs.RowSets.{same-rows}
+use Rattle.pending.proofs.Loops.{binders-split, binders-snoc}
 use Rattle.pending.proofs.Firsts.{first-here, first-left, first-right, none-holds, some-holds, add-known, add-new, firsts-then, first-of-firsts}
 use Rattle.pending.proofs.Owns.{binders-fewer}
 

@@ -20,7 +20,8 @@ use Rattle.reduce.proofs.Marks.{row-same}
 use Rattle.terms.specs.Rows.{withReplaced, replacedFrom}
 use Rattle.pending.specs.Rows.{NumbersApart, Rotated}
 use Rattle.pending.specs.Owned.{owns, ownBinder, lateBinder, lateRow, ReadyOwn, IsPending, Among, LateAs, GivesLate, GivesDeferred}
-use Rattle.pending.proofs.Loops.{same-rows, binders-snoc}
+use Rattle.simplify.proofs.RowSets.{same-rows}
+use Rattle.pending.proofs.Loops.{binders-snoc}
 use Rattle.pending.proofs.Numbers.{rotated-numbers}
 
 -- ## The ways out of `is_late`: q is what `row_at` returned

@@ -1,13 +1,12 @@
 -- The loop of `apply_rows`: what all rows give is what the rows before j have become, and then what the others give.
 use mathlib.Core.Path.{_≡_, refl, ap, sym, _∙_}
 use mathlib.Core.List.{List, [], _++_, append-nil}
-use Prim.Native.Nat.{ℕ, zero, suc, _+_, _*_, _-_, _<_, _≤_}
+use Prim.Native.Nat.{ℕ, suc, _+_, _*_, _-_, _<_, _≤_}
 use native.Mathlib.Omega.{arith}
 use native.Mathlib.Decide.{ℕ-discrete}
-use native.Mathlib.Numerals.{add-one}
 use lib.ListN.{length, getD}
 use Rattle.meaning.specs.Ast.{Binder}
-use Rattle.meaning.specs.Budget.{done, after}
+use Rattle.meaning.specs.Budget.{done}
 use Rattle.meaning.specs.Subst.{apply-preds-pending}
 use Rattle.ast.specs.Table.{Table}
 use Rattle.ast.proofs.Laws.{node-more}
@@ -15,38 +14,24 @@ use Rattle.errors.specs.declared.Refusal.{Refusal}
 use Rattle.pairs.specs.Pairs.{subAt, Stands}
 use Rattle.pairs.proofs.Frames.{stands-refl, stands-then, stands-up, sub-stands, sub-later}
 use Rattle.apply.proofs.Hand.{Then, then-done, refuse-on}
-use Rattle.supers.specs.Rows.{rowAt, withRow, bindersFrom, bindersIn, TypeIn}
+use Rattle.supers.specs.Rows.{rowAt, withRow, bindersIn, TypeIn}
 use Rattle.supers.specs.declared.rows.Row.{Row}
 use Rattle.supers.specs.declared.rows.Row.the-variants.{Pending, Replaced}
 use Rattle.supers.proofs.RowLaws.{row-step, rows-end, kept-rows}
+use Rattle.simplify.proofs.RowSets.{same-rows, rows-split}
 use Rattle.reduce.proofs.Marks.{row-same}
 use Rattle.pending.specs.declared.Swept.{Swept}
 use Rattle.pending.specs.declared.Swept.the-variants.{Done, Refused}
-use Rattle.pending.specs.Rows.{PendingRow, PendingRows}
+use Rattle.pending.specs.Rows.{PendingRow}
 use Rattle.pending.specs.Swept.{ReadySweep, Retyped, RowsSwept, GivesSwept, GivesRows}
-use Rattle.pending.proofs.Sweeps.{prefixed, prefixed-none, prefixed-after, pending-split, one-row}
+use Rattle.pending.proofs.Sweeps.{prefixed, prefixed-none, prefixed-after, pending-split}
 
 -- ## Binders of rows
-
--- Binders of rows that are the same.
-pub same-rows : (ns w bs bs′ : List ℕ) (j k : ℕ) → ((i : ℕ) → j ≤ i → i < j + k → rowAt bs′ i ≡ rowAt bs i) → bindersFrom ns w bs′ j k ≡ bindersFrom ns w bs j k
-unfolding bindersFrom
-same-rows ns w bs bs′ j zero h = refl
-same-rows ns w bs bs′ j (suc k) h = rw (h j (omega arith) (omega arith), same-rows ns w bs bs′ (suc j) k (λ i p q. h i (omega arith) (omega arith)))
 
 -- A row's binder before others, as lists.
 pub with-row : (ns w : List ℕ) (r : Row) (xs ys : List Binder) → withRow ns w r (xs ++ ys) ≡ withRow ns w r xs ++ ys
 with-row ns w (Pending d c t) xs ys = refl
 with-row ns w (Replaced d x) xs ys = refl
-
--- The binders of a + b rows are those of the first a and those of the rest.
-rows-split : (ns w bs : List ℕ) (j a b : ℕ) → bindersFrom ns w bs j (a + b) ≡ bindersFrom ns w bs j a ++ bindersFrom ns w bs (j + a) b
-unfolding bindersFrom
-rows-split ns w bs j zero b = let e : j + 0 ≡ j = omega arith in let f : 0 + b ≡ b = omega arith in rw (e, f)
-rows-split ns w bs j (suc a) b =
-    let e : j + suc a ≡ suc j + a = omega arith in
-    let f : suc a + b ≡ suc (a + b) = omega arith in
-    rw f (ap (withRow ns w (rowAt bs j)) (rows-split ns w bs (suc j) a b) ∙ with-row ns w (rowAt bs j) (bindersFrom ns w bs (suc j) a) (bindersFrom ns w bs (suc j + a) b) ∙ rw e)
 
 -- The binders from row j up to row i and those from it on.
 pub binders-split : (ns w bs : List ℕ) (j i n : ℕ) → j ≤ i → i ≤ n → bindersIn ns w bs j n ≡ bindersIn ns w bs j i ++ bindersIn ns w bs i n

@@ -6,7 +6,7 @@ use mathlib.Core.Option.{none, some}
 use Prim.Native.Nat.{ℕ, _+_, _<_, _≤_}
 use native.Mathlib.Omega.{arith}
 use Rattle.meaning.specs.Base.{yes?}
-use Rattle.meaning.specs.Ast.{TyVar, dvar, Ty, var, con, arrow, Pred, pred, same-ty}
+use Rattle.meaning.specs.Ast.{TyVar, dvar, Ty, var, arrow, Pred, pred, same-ty}
 use Rattle.meaning.specs.Map.{tyvars, elem}
 use Rattle.meaning.specs.Subst.{ftv-type, occurs}
 use Rattle.names.specs.Names.{Names, nameOf, tyvarOf}
@@ -43,7 +43,7 @@ or-false false = refl
 -- ## `is_own`
 
 -- The variables of a type are those that occur in it.
-type-has : (x : TyVar) (a : Ty) → elem tyvars x (ftv-type a []) ≡ occurs x a
+pub type-has : (x : TyVar) (a : Ty) → elem tyvars x (ftv-type a []) ≡ occurs x a
 unfolding elem
 type-has x a = elem-ftv-type x a [] ∙ or-false (occurs x a)
 

@@ -1,7 +1,7 @@
 -- The ways out of the functions of an expression.
 use mathlib.Core.Path.{_≡_, refl, _∙_}
 use mathlib.Core.List.{List, []}
-use Prim.Native.Nat.{ℕ, _+_, _*_, _-_, _<_, _≤_}
+use Prim.Native.Nat.{ℕ, _+_, _*_, _-_, _<_}
 use native.Mathlib.Omega.{arith}
 use lib.ListN.{length}
 use Rattle.meaning.specs.Ast.{Qual, Core, Expr}
@@ -36,7 +36,7 @@ use Rattle.inferred.specs.Closing.{answerOf}
 use Rattle.inferred.specs.Inferring.{stateOf, ReadyI, GivesI}
 use Rattle.inferred.specs.declared.Inferred.{Inferred}
 use Rattle.inferred.specs.declared.Inferred.the-variants.{Done as I-Done, Refused as I-Refused}
-use Rattle.inferred.proofs.Cuts.{after-after}
+use Rattle.compose.proofs.Hand.{after-after}
 use Rattle.inferred.proofs.Ends.{rows-same}
 use Rattle.binding.specs.General.{AskedGeneral}
 use Rattle.infer.specs.Asking.{Asked}

@@ -1,19 +1,15 @@
 -- The steps that a let and an expression share: the substitution is applied to the rows, and to the type.
-use mathlib.Core.Path.{_≡_, refl, _∙_}
+use mathlib.Core.Path.{_≡_, refl}
 use mathlib.Core.List.{List}
-use Prim.Native.Nat.{ℕ, _+_, _*_, _-_, _<_, _≤_}
+use Prim.Native.Nat.{ℕ, _+_, _*_, _-_, _≤_}
 use native.Mathlib.Omega.{arith}
 use lib.ListN.{length}
-use Rattle.meaning.specs.Ast.{Expr}
-use Rattle.meaning.specs.Budget.{Out, done}
+use Rattle.meaning.specs.Budget.{done}
 use Rattle.meaning.specs.Subst.{apply-in}
 use Rattle.meaning.specs.Classes.{ClassEnv}
 use Rattle.meaning.specs.Infer as M
-use Rattle.theorems.proofs.Says.{Says, Any}
 use Rattle.theorems.proofs.Bound.{names-of, pending-names}
-use Rattle.theorems.proofs.Made.{MadeTy, MadePending, MadeEnv, apply-made, pending-made}
-use Rattle.theorems.proofs.InferMade.{infer-made}
-use Rattle.theorems.proofs.DictNames.{infer-names}
+use Rattle.theorems.proofs.Made.{MadeTy, MadePending, apply-made, pending-made}
 use Rattle.ast.specs.Table.{tree}
 use Rattle.ast.proofs.Laws.{kept-tree, node-more}
 use Rattle.pairs.specs.Pairs.{subAt, Stands}
@@ -34,19 +30,9 @@ use Rattle.pending.specs.declared.Swept.the-variants.{Done as S-Done}
 use Rattle.inferred.specs.Closing.{answerOf}
 use Rattle.inferred.specs.Inferring.{stateOf}
 use Rattle.inferred.proofs.Ends.{row-type, rows-later, rows-same, region-later}
-use Rattle.binding.specs.General.{Fit, AskedGeneral}
+use Rattle.binding.specs.General.{AskedGeneral}
+use Rattle.binding.proofs.AfterEnv.{says-done}
 use Rattle.toplevel.specs.Tops.{ReadyRest}
-
--- What holds of an outcome that is an answer.
-pub says-done : {A : Type 0} (P : A → Type 0) {o : Out A} (a : A) (n : ℕ) → o ≡ done a n → Says P Any o → P a
-says-done P a n e h = rw e at h
-
--- What was inferred is fit.
-pub inferred-fit : (d : ℕ) (ce : ClassEnv) (x : Expr) (st : M.State) (n : ℕ) {r : M.Inferred} {st′ : M.State} {l : ℕ} → MadeEnv (st .env) → M.infer-in d ce x st n ≡ done (r, st′) l → Fit r st′
-inferred-fit d ce x st n {r} {st′} {l} m e =
-    let h = says-done _ (r, st′) l e (infer-made d ce x st n m) in
-    let k = says-done _ (r, st′) l e (infer-names d ce x st n) in
-    record { made = h .0; env = h .1; lo = st .dv-counter; hi = st′ .dv-counter; named = k }
 
 -- After a step: the words are w₁, the rows bs₁, the type t₁, and all that was known of the older ones is known of them.
 pub record Moved (ns w ev od il bs : List ℕ) (top left sp tv dv t e k m : ℕ) (w₁ bs₁ : List ℕ) (t₁ top₁ left₁ : ℕ) : Type 0 where

@@ -1,6 +1,6 @@
 -- The ways out of `let_general`, `let_typed`, `let_after` and `process_let`.
 use mathlib.Core.Path.{_≡_, refl, _∙_}
-use mathlib.Core.List.{List, _∷_}
+use mathlib.Core.List.{List}
 use Prim.Native.Nat.{ℕ, _+_, _*_, _-_, _<_, _≤_}
 use native.Mathlib.Omega.{arith}
 use lib.ListN.{length}
@@ -37,7 +37,7 @@ use Rattle.inferred.specs.Closing.{answerOf}
 use Rattle.inferred.specs.Inferring.{stateOf, ReadyI, GrownI, GivesI}
 use Rattle.inferred.specs.declared.Inferred.{Inferred}
 use Rattle.inferred.specs.declared.Inferred.the-variants.{Done as I-Done, Refused as I-Refused}
-use Rattle.inferred.proofs.Cuts.{after-after}
+use Rattle.compose.proofs.Hand.{after-after}
 use Rattle.inferred.proofs.Ends.{rows-same}
 use Rattle.binding.specs.General.{AskedGeneral}
 use Rattle.infer.specs.Asking.{Asked}
@@ -46,7 +46,8 @@ use Rattle.toplevel.specs.Parts.{let-put, let-end, let-general, let-type
 use Rattle.toplevel.specs.Tops.{Nothing, ReadyRest, ReadyEnd, EndsB, GivesB}
 use Rattle.toplevel.specs.declared.Bound.{Bound}
 use Rattle.toplevel.specs.declared.Bound.the-variants.{Refused}
-use Rattle.toplevel.proofs.Moves.{swept, rows-moved, typed, type-moved, inferred-fit}
+use Rattle.infer.proofs.Standing.{inferred-fit}
+use Rattle.toplevel.proofs.Moves.{swept, rows-moved, typed, type-moved}
 use Rattle.toplevel.proofs.Puts.{bound-handed, bound-ended}
 
 -- ## let_general, let_typed, let_after
