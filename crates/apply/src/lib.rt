@@ -11,7 +11,7 @@ use errors::Refusal;
 use pairs::Found;
 
 // A type's word, the first free node and the steps left; or a refusal with the same two.
-#[derive(Drop)]
+#[derive(Clone, Copy)]
 pub enum Applied {
     Done(usize, usize, usize),
     Refused(Refusal, usize, usize),

@@ -9,7 +9,7 @@ ghost use Rattle.ast.specs.Table.{shape, cell, shape_of, cell_of, tree, list, No
 use names::Kind;
 
 // What a type is: a variable by its word, a constructor's name with the list of its arguments, an arrow.
-#[derive(Drop)]
+#[derive(Clone, Copy)]
 pub enum Shape {
     Var(usize),
     Con(usize, usize),
@@ -17,7 +17,7 @@ pub enum Shape {
 }
 
 // What a list of types is.
-#[derive(Drop)]
+#[derive(Clone, Copy)]
 pub enum Cell {
     Nil,
     Cons(usize, usize),
@@ -32,7 +32,7 @@ pub const INT: usize = 0;
 pub const BOOL: usize = 1;
 
 // A type by its word.
-#[derive(Drop)]
+#[derive(Clone, Copy)]
 pub struct Type {
     pub word: usize,
 }

@@ -7,7 +7,7 @@ use nodes::Counts;
 use sections::{Many, Part};
 
 // How many names, types, expressions and declarations a file has; or the refusal of its first bad item.
-#[derive(Drop)]
+#[derive(Clone, Copy)]
 pub enum Reading {
     Good(usize, usize, usize, usize),
     Bad(Refusal),

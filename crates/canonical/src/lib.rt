@@ -17,7 +17,7 @@ pub mod renamed;
 pub mod sorted;
 
 // A variable's word that a walk picked, or none.
-#[derive(Drop)]
+#[derive(Clone, Copy)]
 pub enum Pick {
     Nothing,
     Word(usize),

@@ -7,14 +7,14 @@ use errors::Refusal;
 use supers::rows::Row;
 
 // The first free node and the steps left; or a refusal with both.
-#[derive(Drop)]
+#[derive(Clone, Copy)]
 pub enum Rows {
     Done(usize, usize),
     Refused(Refusal, usize, usize),
 }
 
 // A list of predicates, and the first free node after it.
-#[derive(Drop)]
+#[derive(Clone, Copy)]
 pub struct List {
     pub list: usize,
     pub top: usize,

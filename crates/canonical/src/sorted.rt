@@ -13,7 +13,7 @@ use crate::Pick;
 use ast::{Cell, Shape};
 
 // A list of variables, and the first free node after it.
-#[derive(Drop)]
+#[derive(Clone, Copy)]
 pub struct Vars {
     pub list: usize,
     pub top: usize,

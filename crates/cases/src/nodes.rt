@@ -4,14 +4,14 @@ ghost use Rattle.std.specs.Prelude.{◌≡◌, ◌<◌, ◌≤◌, length};
 use crate::input;
 
 // The first free node, and a type's word.
-#[derive(Drop)]
+#[derive(Clone, Copy)]
 pub struct Made {
     pub top: usize,
     pub word: usize,
 }
 
 // A place in the file, the first free node, and a type's word.
-#[derive(Drop)]
+#[derive(Clone, Copy)]
 pub struct Built {
     pub at: usize,
     pub top: usize,

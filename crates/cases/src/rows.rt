@@ -6,7 +6,7 @@ ghost use Rattle.cases.specs.Tested.{Apart, New};
 use crate::input;
 
 // A place in the file and how many names stand before it.
-#[derive(Drop)]
+#[derive(Clone, Copy)]
 pub struct Head {
     pub at: usize,
     pub count: usize,

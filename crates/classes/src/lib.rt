@@ -12,14 +12,14 @@ use errors::Refusal;
 use instances::Apart;
 
 // Whether superclasses are declared: all are, or this is the first that is not.
-#[derive(Drop)]
+#[derive(Clone, Copy)]
 pub enum Known {
     All,
     Missing(usize),
 }
 
 // A class is added, and so many words of the class table are in use; or a refusal; or the table has no room.
-#[derive(Drop)]
+#[derive(Clone, Copy)]
 pub enum Added {
     Done(usize),
     Refused(Refusal),
@@ -27,7 +27,7 @@ pub enum Added {
 }
 
 // A method's class and type, or nothing.
-#[derive(Drop)]
+#[derive(Clone, Copy)]
 pub enum Method {
     Of(usize, usize),
     Nothing,

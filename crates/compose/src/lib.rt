@@ -165,7 +165,7 @@ pub fn compose_in(
 }
 
 // Whether two substitutions agree, or two types of one variable that differ.
-#[derive(Drop)]
+#[derive(Clone, Copy)]
 pub enum Agreed {
     All,
     Clash(usize, usize),

@@ -7,7 +7,7 @@ use names::Kind;
 
 // What a core term is: a name of the script; a dictionary's name, `Own` being `self`; a literal; and the terms that are
 // nodes. A name is its number, a term, a type and a list their words.
-#[derive(Drop)]
+#[derive(Clone, Copy)]
 pub enum Part {
     Var(usize),
     Dict(usize),

@@ -12,14 +12,14 @@ use errors::Refusal;
 use pairs::Found;
 
 // A type's word and a core term's, the first free node and the steps left; or a refusal with the same two.
-#[derive(Drop)]
+#[derive(Clone, Copy)]
 pub enum Ended {
     Done(usize, usize, usize, usize),
     Refused(Refusal, usize, usize),
 }
 
 // A type's word and how many pairs there are, the first free node and the steps left; or a refusal with the same two.
-#[derive(Drop)]
+#[derive(Clone, Copy)]
 pub enum Joined {
     Done(usize, usize, usize, usize),
     Refused(Refusal, usize, usize),

@@ -4,7 +4,7 @@ ghost use Rattle.errors.specs.Refusals.{Numbered};
 
 // The refusals that the port adds, 1 to 3 with an offset into the file; then `InferenceError`, variant by variant. A
 // name is its number, a type or a type variable its word.
-#[derive(Drop)]
+#[derive(Clone, Copy)]
 pub enum Refusal {
     Format(usize),
     Limit(usize),

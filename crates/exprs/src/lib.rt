@@ -4,7 +4,7 @@ ghost use Rattle.exprs.specs.Exprs.{Shows};
 use views::ExprNode;
 
 // An expression, by the numbers of its names in the table and of its parts in the file. Nothing where no node stands.
-#[derive(Drop)]
+#[derive(Clone, Copy)]
 pub enum Node {
     Var(usize),
     Int(usize),

@@ -12,7 +12,7 @@ ghost use Rattle.free.specs.Free.{add_but, free_type, free_types, Wants, Collect
 use ast::{Cell, Shape};
 
 // A list of variables, and the first free node after it.
-#[derive(Drop)]
+#[derive(Clone, Copy)]
 pub struct Vars {
     pub list: usize,
     pub top: usize,

@@ -14,7 +14,7 @@ use ast::Shape;
 use supers::rows::Row;
 
 // No predicate is ambiguous; or the class and the type of the first one that is.
-#[derive(Drop)]
+#[derive(Clone, Copy)]
 pub enum Clear {
     All,
     First(usize, usize),

@@ -14,14 +14,14 @@ use settle::Settled;
 
 // The scheme's variables, predicates and type, the term, how many rows are deferred, the first free node and the steps left; or a
 // refusal with both.
-#[derive(Drop)]
+#[derive(Clone, Copy)]
 pub enum Generalized {
     Done(usize, usize, usize, usize, usize, usize, usize),
     Refused(Refusal, usize, usize),
 }
 
 // The predicates, the type and the term, the first free node and the steps left; or a refusal with both.
-#[derive(Drop)]
+#[derive(Clone, Copy)]
 pub enum Finalized {
     Done(usize, usize, usize, usize, usize),
     Refused(Refusal, usize, usize),

@@ -10,7 +10,7 @@ use errors::Refusal;
 use subst::AppliedQual;
 
 // The scheme's variables, predicates and type, the term, the first free node and the steps left; or a refusal with both.
-#[derive(Drop)]
+#[derive(Clone, Copy)]
 pub enum Named {
     Done(usize, usize, usize, usize, usize, usize),
     Refused(Refusal, usize, usize),

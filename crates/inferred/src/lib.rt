@@ -19,14 +19,14 @@ use pending::Swept;
 
 // An expression's type and term, how many pairs that end where the stack ended, how many pending rows, the first free node,
 // the steps left and both counters; or a refusal with the first free node and the steps left.
-#[derive(Drop)]
+#[derive(Clone, Copy)]
 pub enum Inferred {
     Done(usize, usize, usize, usize, usize, usize, usize, usize),
     Refused(Refusal, usize, usize),
 }
 
 // A type, a term, how many pairs, the first free node and the steps left: rows and counters are those of the parts.
-#[derive(Drop)]
+#[derive(Clone, Copy)]
 pub enum Closed {
     Done(usize, usize, usize, usize, usize),
     Refused(Refusal, usize, usize),

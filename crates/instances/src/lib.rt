@@ -16,7 +16,7 @@ use ast::Cell;
 use errors::Refusal;
 
 // An instance: its head's class and type, and the list of its context.
-#[derive(Drop)]
+#[derive(Clone, Copy)]
 pub struct Instance {
     pub class: usize,
     pub head: usize,
@@ -25,7 +25,7 @@ pub struct Instance {
 
 // What an attempt to match comes to: so many pairs, the first free node and the steps left; no match and the steps
 // left; or a refusal that the port adds, with the last two.
-#[derive(Drop)]
+#[derive(Clone, Copy)]
 enum Tried {
     Got(usize, usize, usize),
     Failed(usize),
@@ -33,7 +33,7 @@ enum Tried {
 }
 
 // An instance by its number, with its match as in `Tried`; none, and the steps left; or a refusal.
-#[derive(Drop)]
+#[derive(Clone, Copy)]
 pub enum Picked {
     At(usize, usize, usize, usize),
     Nothing(usize),
@@ -41,7 +41,7 @@ pub enum Picked {
 }
 
 // Whether something is so, and the steps left; or a refusal.
-#[derive(Drop)]
+#[derive(Clone, Copy)]
 pub enum Truth {
     Yes(usize),
     No(usize),
@@ -49,7 +49,7 @@ pub enum Truth {
 }
 
 // No older instance overlaps, and the steps left; or a refusal.
-#[derive(Drop)]
+#[derive(Clone, Copy)]
 pub enum Apart {
     All(usize),
     Refused(Refusal, usize, usize),

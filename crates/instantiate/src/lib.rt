@@ -16,21 +16,21 @@ use scope::Entry;
 use term::Cored;
 
 // How many rows, the first free node and the steps left; or a refusal with the last two.
-#[derive(Drop)]
+#[derive(Clone, Copy)]
 pub enum Taken {
     Done(usize, usize, usize),
     Refused(Refusal, usize, usize),
 }
 
 // A type's word, how many rows, the first free node, the steps left and both counters; or a refusal with node and steps.
-#[derive(Drop)]
+#[derive(Clone, Copy)]
 pub enum Instance {
     Done(usize, usize, usize, usize, usize, usize),
     Refused(Refusal, usize, usize),
 }
 
 // A type's word, a term's word, how many rows, the first free node, the steps left and both counters; or a refusal.
-#[derive(Drop)]
+#[derive(Clone, Copy)]
 pub enum Looked {
     Done(usize, usize, usize, usize, usize, usize, usize),
     Refused(Refusal, usize, usize),

@@ -5,14 +5,14 @@ ghost use Rattle.instantiate.specs.Looks.{FindsFirst, ReadyCore, Lists, GivesCor
 use classes::Method;
 
 // A dictionary's number, if there is one.
-#[derive(Drop)]
+#[derive(Clone, Copy)]
 pub enum Sought {
     At(usize),
     Nothing,
 }
 
 // A term's word and the first free node, if there is one.
-#[derive(Drop)]
+#[derive(Clone, Copy)]
 pub enum Cored {
     Done(usize, usize),
     Nothing,

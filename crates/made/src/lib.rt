@@ -2,7 +2,7 @@
 use errors::Refusal;
 
 // The term's word, the first free node, the steps left and both counters; or a refusal with the first two.
-#[derive(Drop)]
+#[derive(Clone, Copy)]
 pub enum Made {
     Done(usize, usize, usize, usize, usize),
     Refused(Refusal, usize, usize),

@@ -15,7 +15,7 @@ pub const NULLARY: usize = 4611686018427387904;
 pub const NODE: usize = 9223372036854775808;
 
 // What a type's word says.
-#[derive(Drop)]
+#[derive(Clone, Copy)]
 pub enum Kind {
     Node(usize),
     Named(usize),
@@ -24,7 +24,7 @@ pub enum Kind {
 }
 
 // The bytes of a variable as a number of five words, the highest first: 32 bytes, and what lies over all such.
-#[derive(Drop)]
+#[derive(Clone, Copy)]
 pub struct Key {
     pub over: u64,
     pub a: u64,

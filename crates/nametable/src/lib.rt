@@ -10,7 +10,7 @@ use rows::Built;
 use spelling::Form;
 
 // The length of a text that may be a name; or the place of what is wrong.
-#[derive(Drop)]
+#[derive(Clone, Copy)]
 pub enum Spot {
     Text(usize),
     Wrong(usize),

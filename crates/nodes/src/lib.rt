@@ -12,7 +12,7 @@ use errors::Refusal;
 use reader::{Count, Field, Picked, Place};
 
 // How many names, types and expressions stand before a place.
-#[derive(Drop)]
+#[derive(Clone, Copy)]
 pub struct Counts {
     pub names: usize,
     pub types: usize,
@@ -20,7 +20,7 @@ pub struct Counts {
 }
 
 // A section whose things are named by number.
-#[derive(Drop)]
+#[derive(Clone, Copy)]
 pub enum Section {
     Names,
     Types,
@@ -28,14 +28,14 @@ pub enum Section {
 }
 
 // What a name is used for, and so which form of names is reserved.
-#[derive(Drop)]
+#[derive(Clone, Copy)]
 pub enum Use {
     Variable,
     Word,
 }
 
 // What a list's items are.
-#[derive(Drop)]
+#[derive(Clone, Copy)]
 pub enum Row {
     Super,
     Argument,

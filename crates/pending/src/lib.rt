@@ -12,7 +12,7 @@ pub mod order;
 pub mod own;
 
 // The first free node and the steps left; or a refusal with both.
-#[derive(Drop)]
+#[derive(Clone, Copy)]
 pub enum Swept {
     Done(usize, usize),
     Refused(Refusal, usize, usize),

@@ -15,7 +15,7 @@ use ast::Shape;
 use supers::rows::Row;
 
 // The dictionary's number of a row with a wanted predicate.
-#[derive(Drop)]
+#[derive(Clone, Copy)]
 pub enum Twin {
     At(usize),
     Nothing,

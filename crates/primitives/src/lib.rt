@@ -7,7 +7,7 @@ use scope::Entry;
 
 // A row: the number of the primitive's name, the name's number of its arguments' type, how many arguments it takes, and
 // the name's number of its result's type.
-#[derive(Drop)]
+#[derive(Clone, Copy)]
 pub struct Primitive {
     pub number: usize,
     pub argument: usize,

@@ -5,28 +5,28 @@ ghost use Rattle.reader.specs.Verdicts.{IsField, IsCount, Picks};
 use errors::Refusal;
 
 // A field's number; or the end of the file cuts it.
-#[derive(Drop)]
+#[derive(Clone, Copy)]
 pub enum Field {
     Is(usize),
     Cut,
 }
 
 // A count within its limit, or the refusal.
-#[derive(Drop)]
+#[derive(Clone, Copy)]
 pub enum Count {
     Is(usize),
     Bad(Refusal),
 }
 
 // The number of one of some things; or there is none of that number.
-#[derive(Drop)]
+#[derive(Clone, Copy)]
 pub enum Picked {
     At(usize),
     Nothing,
 }
 
 // The place after what was read, or the refusal of the first bad item.
-#[derive(Drop)]
+#[derive(Clone, Copy)]
 pub enum Place {
     Next(usize),
     Bad(Refusal),

@@ -16,7 +16,7 @@ use supers::rows::Row;
 use supers::{Root, Searched};
 
 // The first free node and the steps left; or a refusal with both.
-#[derive(Drop)]
+#[derive(Clone, Copy)]
 pub enum Reduced {
     Done(usize, usize),
     Refused(Refusal, usize, usize),

@@ -5,7 +5,7 @@ ghost use Rattle.std.specs.Prelude.{◌<◌};
 use cases::input;
 
 // A place in the file, and the first free word of the table.
-#[derive(Drop)]
+#[derive(Clone, Copy)]
 struct Next {
     at: usize,
     free: usize,

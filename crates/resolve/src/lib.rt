@@ -22,7 +22,7 @@ use supers::{Root, Searched};
 
 // A dictionary's word or the word of a list of them, the first free node and the steps left; or a refusal with the last
 // two.
-#[derive(Drop)]
+#[derive(Clone, Copy)]
 pub enum Resolved {
     Done(usize, usize, usize),
     Refused(Refusal, usize, usize),
@@ -30,7 +30,7 @@ pub enum Resolved {
 
 // The way to a dictionary: its word; or an instance by its number, how many pairs its match has, and the list of its
 // subgoals; each with the first free node and the steps left. Or a refusal with these two.
-#[derive(Drop)]
+#[derive(Clone, Copy)]
 enum Choice {
     Given(usize, usize, usize),
     By(usize, usize, usize, usize, usize),
@@ -38,7 +38,7 @@ enum Choice {
 }
 
 // A core term's word, and the first free node.
-#[derive(Drop)]
+#[derive(Clone, Copy)]
 struct Term {
     word: usize,
     top: usize,

@@ -12,7 +12,7 @@ ghost use Rattle.rows.specs.Rows.{row_set, RowIs, names_from, among, Filled, IsB
 use names::Key;
 
 // The row of a built-in name; or it is none.
-#[derive(Drop)]
+#[derive(Clone, Copy)]
 pub enum Built {
     At(usize),
     Nothing,

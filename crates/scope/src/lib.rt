@@ -17,7 +17,7 @@ use errors::Refusal;
 use subst::AppliedQual;
 
 // A row: no scheme, one without free variables, or any other; its variables, its predicates and its type.
-#[derive(Drop)]
+#[derive(Clone, Copy)]
 pub enum Entry {
     Nothing,
     Closed(usize, usize, usize),
@@ -25,7 +25,7 @@ pub enum Entry {
 }
 
 // The first free node and the steps left; or a refusal with both.
-#[derive(Drop)]
+#[derive(Clone, Copy)]
 pub enum Swept {
     Done(usize, usize),
     Refused(Refusal, usize, usize),

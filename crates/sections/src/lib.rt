@@ -7,7 +7,7 @@ use nodes::Counts;
 use reader::{Count, Place};
 
 // A section after the names.
-#[derive(Drop)]
+#[derive(Clone, Copy)]
 pub enum Part {
     Types,
     Exprs,
@@ -15,7 +15,7 @@ pub enum Part {
 }
 
 // How many items a section has and the place after them, or the refusal of the first bad item.
-#[derive(Drop)]
+#[derive(Clone, Copy)]
 pub enum Many {
     Read(usize, usize),
     Bad(Refusal),

@@ -15,7 +15,7 @@ use simplify::Simplified;
 use supers::Root;
 
 // The term's word, how many rows are deferred, the first free node and the steps left; or a refusal with both.
-#[derive(Drop)]
+#[derive(Clone, Copy)]
 pub enum Settled {
     Done(usize, usize, usize, usize),
     Refused(Refusal, usize, usize),

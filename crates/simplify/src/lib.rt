@@ -7,7 +7,7 @@ use supers::Searched;
 use supers::rows::Row;
 
 // The first free node and the steps left; or a refusal with both.
-#[derive(Drop)]
+#[derive(Clone, Copy)]
 pub enum Simplified {
     Done(usize, usize),
     Refused(Refusal, usize, usize),

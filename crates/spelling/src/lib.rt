@@ -11,7 +11,7 @@ ghost use Rattle.spelling.specs.Forms.{ByteAt, Packs, FormIs};
 use names::Key;
 
 // What RESERVED says of a name: free, like a type variable that the checker makes, or like another name that it makes.
-#[derive(Drop)]
+#[derive(Clone, Copy)]
 pub enum Form {
     Free,
     Variable,

@@ -17,7 +17,7 @@ use ast::Cell;
 use errors::Refusal;
 
 // A substitution: k pairs of the stack from word at.
-#[derive(Drop)]
+#[derive(Clone, Copy)]
 pub struct Subst {
     pub at: usize,
     pub k: usize,
@@ -44,7 +44,7 @@ impl Subst {
 }
 
 // The predicates' list, a type's word, the first free node and the steps left; or a refusal with the last two.
-#[derive(Drop)]
+#[derive(Clone, Copy)]
 pub enum AppliedQual {
     Done(usize, usize, usize, usize),
     Refused(Refusal, usize, usize),

@@ -19,28 +19,28 @@ use pairs::Found;
 use path::Entered;
 
 // Whose dictionaries a list of givens names: the context of an instance of a class, or binders.
-#[derive(Drop)]
+#[derive(Clone, Copy)]
 pub enum Root {
     Context(usize),
     Binder,
 }
 
 // Where givens stand: in a list of the table, or in the rows of a lent slice up to a number.
-#[derive(Drop)]
+#[derive(Clone, Copy)]
 pub enum Source {
     Listed(Root),
     Rows(usize),
 }
 
 // The first of some givens: its dictionary, its class, its type, and where the rest begins.
-#[derive(Drop)]
+#[derive(Clone, Copy)]
 pub enum Given {
     One(usize, usize, usize, usize),
     Nothing,
 }
 
 // A dictionary's word, the first free node and the steps left; the steps left; or a refusal with both.
-#[derive(Drop)]
+#[derive(Clone, Copy)]
 pub enum Searched {
     Found(usize, usize, usize),
     Nothing(usize),

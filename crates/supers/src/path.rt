@@ -8,7 +8,7 @@ use pairs::Found;
 
 // What comes of one entry: there is none left below the last frame; it lies too deep; no step is left for it; it is the
 // goal; it is not.
-#[derive(Drop)]
+#[derive(Clone, Copy)]
 pub enum Entered {
     Up,
     Deep,

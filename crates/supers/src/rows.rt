@@ -14,7 +14,7 @@ use crate::{Given, Searched, Source};
 pub const MARK: u64 = 18446744073709551615;
 
 // A row: a dictionary's number, its class and its type; or the number and what replaces it.
-#[derive(Drop)]
+#[derive(Clone, Copy)]
 pub enum Row {
     Pending(usize, usize, usize),
     Replaced(usize, usize),

@@ -18,7 +18,7 @@ use pending::Swept;
 const DEPTH: usize = 256;
 
 // Predicates, type and term, the first free node, the steps left and both counters; or a refusal with the first two.
-#[derive(Drop)]
+#[derive(Clone, Copy)]
 pub enum Checked {
     Done(usize, usize, usize, usize, usize, usize, usize),
     Refused(Refusal, usize, usize),

@@ -25,7 +25,7 @@ use supers::rows::Row;
 const DEPTH: usize = 256;
 
 // A scheme's variables, predicates and type, the first free node, the steps left and both counters; or a refusal with the first two.
-#[derive(Drop)]
+#[derive(Clone, Copy)]
 pub enum Bound {
     Done(usize, usize, usize, usize, usize, usize, usize),
     Refused(Refusal, usize, usize),

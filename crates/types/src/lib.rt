@@ -10,14 +10,14 @@ ghost use Rattle.types.specs.Taking.{Room, Takes};
 use views::TypeNode;
 
 // How many nodes, or more than the limit.
-#[derive(Drop)]
+#[derive(Clone, Copy)]
 pub enum Sized {
     Is(usize),
     Over,
 }
 
 // A word and the first free node.
-#[derive(Drop)]
+#[derive(Clone, Copy)]
 pub struct Taken {
     pub word: usize,
     pub top: usize,

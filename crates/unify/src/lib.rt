@@ -15,7 +15,7 @@ use ast::{Cell, Shape};
 use errors::Refusal;
 
 // Two types' words, the first free node and the steps left; or a refusal.
-#[derive(Drop)]
+#[derive(Clone, Copy)]
 pub enum Two {
     Done(usize, usize, usize, usize),
     Refused(Refusal, usize, usize),

@@ -12,7 +12,7 @@ use reader::{Count, Field};
 
 // A type: a variable's name; a constructor's name, the place of its first argument and how many there are; the two
 // sides of an arrow. Nothing where no node stands.
-#[derive(Drop)]
+#[derive(Clone, Copy)]
 pub enum TypeNode {
     Var(usize),
     Con(usize, usize, usize),
@@ -21,7 +21,7 @@ pub enum TypeNode {
 }
 
 // An expression, by the numbers of its names and parts. Nothing where no node stands.
-#[derive(Drop)]
+#[derive(Clone, Copy)]
 pub enum ExprNode {
     Var(usize),
     Int(usize),
@@ -33,7 +33,7 @@ pub enum ExprNode {
 }
 
 // A list of the file: the place of its first item, and how many there are.
-#[derive(Drop)]
+#[derive(Clone, Copy)]
 pub struct Listed {
     pub at: usize,
     pub count: usize,
@@ -41,7 +41,7 @@ pub struct Listed {
 
 // A declaration. A class: name, variable, superclasses of 2 bytes each, signatures and defaults of 4 bytes each. An
 // instance: context of 4 bytes each, head class, head type, methods of 4 bytes each. Nothing where none stands.
-#[derive(Drop)]
+#[derive(Clone, Copy)]
 pub enum DeclNode {
     Class(usize, usize, Listed, Listed, Listed),
     Instance(Listed, usize, usize, Listed),
