@@ -2,13 +2,10 @@
 use mathlib.Core.Path.{◌≡◌, refl, sym, ◌∙◌}
 use mathlib.Core.Bool.{true, false}
 use mathlib.Core.List.{List}
-use mathlib.Core.Logic.{◌⊎◌, ⊎_elim}
 use Prim.Native.Nat.{ℕ, ◌+◌, ◌*◌, ◌^◌, ◌<◌, ◌≤◌}
 use native.Mathlib.Omega.{arith}
 use lib.ListN.{length, get_or}
 use lib.Dec as code
-use denote.Enum.Declared.{tag_of}
-use Rattle.names.specs.contracts.Kind.{the_type}
 use Rattle.meaning.specs.Ast.{Name, TyVar, named, fresh, key, tie}
 use Rattle.names.specs.declared.Kind.{Kind}
 use Rattle.names.specs.declared.Kind.TheVariants.{Node, Named, Fresh, Nullary}
@@ -68,13 +65,13 @@ unfolding tie
 before_named (named m) n = refl
 before_named (fresh k) n = refl
 
--- The tag of a word that says no made variable.
+-- A word that says no made variable.
 abbrev pub NotMade : Kind → Type 0
-NotMade s = (tag_of the_type s ≡ 0) ⊎ ((tag_of the_type s ≡ 1) ⊎ (tag_of the_type s ≡ 3))
+NotMade s = (k : ℕ) → s ≡ Fresh k → ⊥
 
--- A made variable has another tag.
+-- A made variable is one.
 made_tag : (k : ℕ) → NotMade (Fresh k) → ⊥
-made_tag k h = ⊎_elim (λ e. omega arith) (λ i. ⊎_elim (λ e. omega arith) (λ e. omega arith) i) h
+made_tag k h = h k refl
 
 -- The second word says no made variable.
 not_second : (x : TyVar) (ns : List ℕ) (t : Kind) → NotMade t → false ≡ tie x (variable_of ns t)

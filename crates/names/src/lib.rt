@@ -1,4 +1,6 @@
 // Words that stand for type variables, and the byte order of names.
+#![tactic(auto)]
+
 ghost use Rattle.std.specs.Prelude.{◌≡◌, List, ℕ, ◌+◌, ◌*◌, ◌%◌, ◌^◌, ◌<◌};
 ghost use Rattle.meaning.specs.Base.{ltb, eqb};
 ghost use Rattle.meaning.specs.Ast.{fresh, key, named, tie, tyvar_before};
