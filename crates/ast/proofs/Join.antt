@@ -1,12 +1,12 @@
 -- Laws of two slices as one list: a closed table and the buffer behind it.
 use Prim.Native.Nat.{ℕ, zero, suc, ◌+◌, ◌*◌, ◌-◌, ◌^◌, ◌<◌, ◌≤◌}
 use native.Mathlib.Omega.{arith}
-use mathlib.Core.Path.{◌≡◌, refl, ap, sym, ◌∙◌}
+use mathlib.Core.Path.{◌≡◌, refl, ap}
 use mathlib.Core.List.{List, [], ◌∷◌, ◌++◌}
 use lib.ListN.{length, get_or, set, length-append}
 use Rattle.names.specs.Names.{first_node}
 use Rattle.ast.specs.Table.{tree, list, Table, Node, Kept, pushed}
-use Rattle.ast.proofs.Laws.{kept_table, kept_node, kept_tree, kept_list}
+use Rattle.ast.proofs.Laws.{kept_table, kept_tree, kept_list}
 
 -- A word of the first list.
 pub get_low : (a b : List ℕ) (i : ℕ) → i < length a → get_or (a ++ b) i 0 ≡ get_or a i 0

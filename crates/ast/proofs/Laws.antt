@@ -6,15 +6,14 @@ use mathlib.Core.Path.{◌≡◌, refl, ap, sym, ◌∙◌}
 use mathlib.Core.List.{List}
 use lib.ListN.{length, get_or}
 use Rattle.meaning.specs.Ast.{Ty, Tys, var, con, arrow, nil, ◌◂◌}
-use Rattle.names.specs.Names.{first_fresh, first_nullary, first_node, kind_of, name_of, tyvar_of}
+use Rattle.names.specs.Names.{first_nullary, first_node, kind_of, name_of, tyvar_of}
 use Rattle.names.specs.declared.Kind.{Kind}
-use Rattle.names.specs.declared.Kind.TheVariants.{Node as A-Node, Named, Fresh, Nullary}
 use Rattle.ast.specs.declared.Shape.{Shape}
 use Rattle.ast.specs.declared.Shape.TheVariants.{Var, Con, Arrow}
 use Rattle.ast.specs.declared.Cell.{Cell}
 use Rattle.ast.specs.declared.Cell.TheVariants.{Nil, Cons}
 use Rattle.ast.specs.Table.{shape, cell, nil_word, shape_of, cell_of, of_shape, of_cell, tree_f, list_f, tree, list, ShapeBelow, CellBelow, Table, Node, Kept}
-use Rattle.ast.proofs.Ranges.{Low, variable, made, constant, kind_low, kind_node, kind_at, shape_low, cell_low, below_low, var_word}
+use Rattle.ast.proofs.Ranges.{Low, variable, made, constant, kind_low, kind_at, shape_low, cell_low, below_low, var_word}
 
 -- Two readings that agree below t agree on what refers below t.
 shape_ext : (ns : List ℕ) (ty ty' : ℕ → Ty) (tys tys' : ℕ → Tys) (t : ℕ) (s : Shape) → ShapeBelow t s

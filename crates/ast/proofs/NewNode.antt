@@ -1,19 +1,15 @@
 -- Laws of a new node: what is pushed is read back, and all below it stands.
-use Prim.Native.Nat.{ℕ, zero, suc, ◌+◌, ◌*◌, ◌-◌, ◌<◌, ◌≤◌}
+use Prim.Native.Nat.{ℕ, ◌+◌, ◌*◌, ◌<◌, ◌≤◌}
 use native.Mathlib.Omega.{arith}
 use native.Mathlib.Nat.{eq-or-lt_of_le}
 use mathlib.Core.Path.{◌≡◌, refl, ap, sym, ◌∙◌}
 use mathlib.Core.Logic.{◌⊎◌, ⊎_elim}
-use mathlib.Core.List.{List, ◌++◌}
+use mathlib.Core.List.{List}
 use lib.ListN.{length, get_or, set, length-set}
 use lib.Seq.{get_or-set_same, get_or-set_other}
-use Rattle.meaning.specs.Ast.{Ty, Tys, var, con, arrow, nil, ◌◂◌}
-use Rattle.names.specs.Names.{first_node, name_of, tyvar_of}
-use Rattle.ast.specs.declared.Shape.{Shape}
-use Rattle.ast.specs.declared.Shape.TheVariants.{Var, Con, Arrow}
-use Rattle.ast.specs.declared.Cell.{Cell}
-use Rattle.ast.specs.declared.Cell.TheVariants.{Nil, Cons}
-use Rattle.ast.specs.Table.{shape, cell, shape_of, cell_of, of_shape, of_cell, tree, list, ShapeBelow, CellBelow, Table, Node, Kept, pushed}
+use Rattle.meaning.specs.Ast.{con, arrow, ◌◂◌}
+use Rattle.names.specs.Names.{first_node, name_of}
+use Rattle.ast.specs.Table.{shape, cell, shape_of, cell_of, tree, list, ShapeBelow, CellBelow, Table, Node, Kept, pushed}
 use Rattle.ast.proofs.Laws.{shape_at, cell_at, node_more, kept_shape, kept_cell, kept_tree, kept_list, tree_con, tree_arrow, list_cons}
 
 module _ (w : List ℕ) (top tag a b : ℕ) where

@@ -1,5 +1,5 @@
 -- What a word says, by where it lies: words that name no node say the same over any words.
-use mathlib.Core.Path.{◌≡◌, refl, sym, ◌∙◌}
+use mathlib.Core.Path.{◌≡◌, refl, ◌∙◌}
 use mathlib.Core.List.{List}
 use Prim.Native.Nat.{ℕ, zero, suc, ◌+◌, ◌*◌, ◌-◌, ◌<◌, ◌≤◌}
 use native.Mathlib.Decide.{dec_lt}
@@ -9,11 +9,9 @@ use Rattle.meaning.specs.Base.{is_yes, if, ltb}
 use Rattle.names.specs.Names.{first_fresh, first_nullary, first_node, kind_of}
 use Rattle.names.specs.declared.Kind.{Kind}
 use Rattle.names.specs.declared.Kind.TheVariants.{Node as A-Node, Named, Fresh, Nullary}
-use Rattle.ast.specs.declared.Shape.{Shape}
 use Rattle.ast.specs.declared.Shape.TheVariants.{Var, Con, Arrow}
-use Rattle.ast.specs.declared.Cell.{Cell}
 use Rattle.ast.specs.declared.Cell.TheVariants.{Nil, Cons}
-use Rattle.ast.specs.Table.{shape, cell, shape_at, cell_at, nil_word, shape_of, cell_of, ShapeBelow, CellBelow}
+use Rattle.ast.specs.Table.{shape, cell, shape_at, cell_at, shape_of, cell_of, ShapeBelow}
 
 -- The kinds of words that name no node, as a word's range gives them, and the kind of a word that does.
 pub data Low (t : ℕ) : Kind → Type 0 where

@@ -1,11 +1,10 @@
 -- The words of the two built-in types.
-use mathlib.Core.Path.{◌≡◌, refl, ap, ◌∙◌}
-use mathlib.Core.List.{List}
-use Prim.Native.Nat.{ℕ, ◌+◌, ◌<◌}
+use mathlib.Core.Path.{ap, ◌∙◌}
+use Prim.Native.Nat.{◌+◌}
 use native.Mathlib.Omega.{arith}
-use Rattle.meaning.specs.Ast.{called, Ty, con, nil, int, bool}
-use Rattle.names.specs.Names.{first_nullary, name_of}
-use Rattle.ast.specs.Table.{tree, BuiltIn, Stands}
+use Rattle.meaning.specs.Ast.{con, nil, int, bool}
+use Rattle.names.specs.Names.{first_nullary}
+use Rattle.ast.specs.Table.{Stands}
 use Rattle.ast.proofs.Laws.{low_con}
 
 -- The constructor without arguments of name 0.

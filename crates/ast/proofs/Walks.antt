@@ -1,23 +1,22 @@
 -- Laws of the walks over a type: counting, looking for a variable, and telling types apart.
-use Prim.Native.Nat.{ℕ, zero, suc, ◌+◌, ◌*◌, ◌-◌, ◌<◌, ◌≤◌}
+use Prim.Native.Nat.{ℕ, ◌+◌}
 use native.Mathlib.Omega.{arith}
 use native.Mathlib.Numerals.{add-one}
 use mathlib.Core.Path.{◌≡◌, refl, ap, sym, ◌∙◌}
-use mathlib.Core.Bool.{Bool, true, false, ◌||◌}
+use mathlib.Core.Bool.{Bool, true, false}
 use mathlib.Core.List.{List}
 use lib.Dec.{eqb}
 use borrow.Author.Tests.{eq-eqb, ne_eqb}
-use lib.ListN.{length, get_or}
 use Rattle.meaning.specs.Base.{is_yes}
-use Rattle.meaning.specs.Ast.{Name, TyVar, Ty, Tys, var, con, arrow, nil, ◌◂◌, same_ty, same_tyvar, count_tys}
-use Rattle.meaning.specs.Subst.{occurs, occurs_in}
-use Rattle.names.specs.Names.{first_node, name_of, tyvar_of, Names}
+use Rattle.meaning.specs.Ast.{Ty, var, same_ty, same_tyvar, count_tys}
+use Rattle.meaning.specs.Subst.{occurs}
+use Rattle.names.specs.Names.{tyvar_of, Names}
 use Rattle.names.proofs.Distinct.{name_of_same, tyvar_of_same}
 use Rattle.ast.specs.declared.Shape.{Shape}
 use Rattle.ast.specs.declared.Shape.TheVariants.{Var, Con, Arrow}
 use Rattle.ast.specs.declared.Cell.{Cell}
 use Rattle.ast.specs.declared.Cell.TheVariants.{Nil, Cons}
-use Rattle.ast.specs.Table.{shape_of, cell_of, tree, list, Table, Node, Counted, SameTys}
+use Rattle.ast.specs.Table.{shape_of, cell_of, tree, list, Node, Counted, SameTys}
 use Rattle.ast.proofs.Ranges.{cons_node}
 use Rattle.ast.proofs.Laws.{tree_var, tree_con, tree_arrow, list_nil, list_cons, cons_tail}
 

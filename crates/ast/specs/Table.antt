@@ -2,7 +2,7 @@
 -- words from 4 * n on: a tag, two fields, and one for later use.
 use Rattle.std.specs.Prelude.{◌≡◌, List, Bool, true, false, ℕ, zero, suc, ◌+◌, ◌*◌, ◌-◌, ◌<◌, ◌≤◌, length, get_or, set}
 use Rattle.meaning.specs.Ast.{called, Ty, Tys, var, con, arrow, nil, ◌◂◌, count_tys}
-use Rattle.names.specs.Names.{first_node, first_nullary, kind_of, name_of, tyvar_of}
+use Rattle.names.specs.Names.{first_node, kind_of, name_of, tyvar_of}
 use Rattle.names.specs.declared.Kind.{Kind}
 use Rattle.names.specs.declared.Kind.TheVariants.{Node as A-Node, Named, Fresh, Nullary}
 use Rattle.ast.specs.declared.Shape.{Shape}

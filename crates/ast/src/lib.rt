@@ -1,4 +1,6 @@
 // Types as words over a closed table and the lent buffer behind it, in which a table of nodes grows from below.
+#![tactic(auto)]
+
 ghost use Rattle.std.specs.Prelude.{◌≡◌, List, ◌++◌, ℕ, ◌+◌, ◌*◌, ◌<◌, ◌≤◌, length, get_or};
 ghost use Rattle.meaning.specs.Base.{is_yes};
 ghost use Rattle.meaning.specs.Ast.{same_ty, int, bool};

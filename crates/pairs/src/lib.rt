@@ -1,4 +1,6 @@
 // Substitutions as pairs on the stack: a variable's word and a type's word each.
+#![tactic(auto)]
+
 ghost use Rattle.std.specs.Prelude.{◌≡◌, ◌++◌, ℕ, ◌+◌, ◌*◌, ◌<◌, ◌≤◌, length, set};
 ghost use Rattle.pairs.specs.Pairs.{find_at};
 

@@ -1,4 +1,6 @@
 // Lists of type variables in the table of nodes, and whether the variables of a type are among them.
+#![tactic(auto)]
+
 ghost use Rattle.std.specs.Prelude.{◌≡◌, [], ◌++◌};
 ghost use Rattle.meaning.specs.Map.{tyvars, elem};
 ghost use Rattle.meaning.specs.Subst.{ftv_type, ftv_types};

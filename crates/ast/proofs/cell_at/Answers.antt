@@ -3,7 +3,6 @@ use native.Mathlib.Omega.{arith}
 use mathlib.Core.Path.{sym, ◌∙◌}
 use Rattle.ast.specs.Table.{cell_of}
 use Rattle.ast.proofs.Ranges.{node_word}
-use borrow.Author.Rules.{rules}
 use Rattle.ast.proofs.cell_at.Goals as goal
 
 pub node_cell-requires : goal.node_cell-requires

@@ -2,7 +2,6 @@
 use native.Mathlib.Omega.{arith}
 use mathlib.Core.Path.{sym}
 use Rattle.ast.proofs.Join.{joined, get_low, get_high}
-use borrow.Author.Rules.{rules}
 use Rattle.ast.proofs.get.Goals as goal
 
 pub returns-then-i-n : goal.returns-then-i-n

@@ -2,7 +2,6 @@
 use native.Mathlib.Omega.{arith}
 use Rattle.ast.proofs.Join.{joined}
 use Rattle.ast.proofs.Ranges.{cons_is, nil_is}
-use borrow.Author.Rules.{rules}
 use Rattle.ast.proofs.node_cell.Goals as goal
 
 pub overflow_mul-i : goal.overflow_mul-i

@@ -2,7 +2,6 @@
 use native.Mathlib.Omega.{arith}
 use Rattle.ast.proofs.Join.{joined}
 use Rattle.ast.proofs.Ranges.{con_is, arrow_is, other_is}
-use borrow.Author.Rules.{rules}
 use Rattle.ast.proofs.node_shape.Goals as goal
 
 pub overflow_mul-i : goal.overflow_mul-i

@@ -2,7 +2,6 @@
 use native.Mathlib.Omega.{arith}
 use lib.ListN.{length-set}
 use Rattle.ast.proofs.Join.{joined, push_at}
-use borrow.Author.Rules.{rules}
 use Rattle.ast.proofs.push.Goals as goal
 
 pub overflow_mul-i : goal.overflow_mul-i

@@ -3,7 +3,6 @@ use native.Mathlib.Omega.{arith}
 use mathlib.Core.Path.{sym, ◌∙◌}
 use Rattle.ast.specs.Table.{shape_of}
 use Rattle.ast.proofs.Ranges.{node_word}
-use borrow.Author.Rules.{rules}
 use Rattle.ast.proofs.shape_at.Goals as goal
 
 pub node_shape-requires : goal.node_shape-requires
