@@ -1,10 +1,9 @@
 -- Corners that a tempting change would round off, each computed.
 use mathlib.Core.Path.{◌≡◌, refl}
 use mathlib.Core.List.{List, [], ◌∷◌}
-use Prim.Native.Nat.{ℕ}
-use Rattle.meaning.specs.Ast.{letter, called, dvar, self, Ty, nil, ◌◂◌, arrow, int, bool, pred, cdict, eint, eapp, Decl}
+use Rattle.meaning.specs.Ast.{letter, called, dvar, self, nil, ◌◂◌, arrow, int, bool, pred, cdict, eint, eapp, Decl}
 use Rattle.meaning.specs.Errors.{too_deep}
-use Rattle.meaning.specs.Budget.{Out, done, refused}
+use Rattle.meaning.specs.Budget.{done, refused}
 use Rattle.meaning.specs.Subst.{apply_in, compose}
 use Rattle.meaning.specs.Unify.{unify_in, match_in}
 use Rattle.meaning.specs.Classes.{no_classes, by_super_in, resolve_in}
@@ -13,7 +12,7 @@ use Rattle.meaning.specs.Infer.{infer_in}
 use Rattle.meaning.specs.Session.{new}
 use Rattle.meaning.proofs.Written.{v, c, ev, at, body, sig, class, instance, check}
 use Rattle.meaning.proofs.Metered.{everything, metered, said}
-use mathlib.Core.Bool.{true, false}
+use mathlib.Core.Bool.{true}
 
 -- A step that is both too deep and one too many is too deep, in each of the eight walks.
 abbrev DepthFirst : Type 0

@@ -1,17 +1,16 @@
 -- Selection on two small environments: which field a pick finds, and whose arguments a stored record sees.
-use mathlib.Core.Path.{◌≡◌, refl}
+use mathlib.Core.Path.{refl}
 use mathlib.Core.List.{List, [], ◌∷◌}
-use mathlib.Core.Option.{some}
 use Prim.Native.Nat.{ℕ}
 use native.Mathlib.Decide.{ℕ_discrete}
 use Rattle.meaning.specs.Base.{first, nth}
 use Rattle.meaning.specs.Text.{quoted, packed}
-use Rattle.meaning.specs.Ast.{Name, called, same_name, ctx, Field, method, super, same_field, Ty, var, int, bool, Pred, pred, Core, cdict, dict_app, dict_proj, dict_rec, cnil, ◌◃◌}
+use Rattle.meaning.specs.Ast.{Name, called, same_name, ctx, Field, method, same_field, Ty, var, int, bool, Pred, pred, Core, cdict, dict_app, dict_rec, cnil, ◌◃◌}
 use Rattle.meaning.specs.Subst.{occurs}
 use Rattle.meaning.specs.Plain.{sub}
 use Rattle.meaning.specs.Classes.{ClassEnv, InstanceInfo}
 use Rattle.meaning.specs.Derives.{Takes}
-use Rattle.meaning.specs.Select.{Dict, Dicts, dict, alone, ◌and◌, nth_dict, field_of, outward, Reads, a_name, a_record, applied_to, ReadAll, no_more, and_more, Picks, picks}
+use Rattle.meaning.specs.Select.{Dict, Dicts, dict, alone, ◌and◌, nth_dict, field_of, outward, a_name, a_record, applied_to, no_more, and_more, Picks, picks}
 
 abbrev eq : Name
 eq = called "Eq"

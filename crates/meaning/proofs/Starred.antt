@@ -6,7 +6,6 @@ use Prim.Native.Nat.{ℕ}
 use Rattle.meaning.specs.Ast.{TyVar, letter, called, Ty, nil, ◌◂◌, arrow, int, bool, dvar, super, pred, cdict, dict_proj, dict_rec, Binder, Expr, eint, ebool, eapp, Decl}
 use Rattle.meaning.specs.Errors.{number, Value, a_number, a_name, a_variable, a_type, values}
 use Rattle.meaning.specs.Budget.{Out, done, refused}
-use Rattle.meaning.specs.Subst.{Subst}
 use Rattle.meaning.specs.Unify.{unify, match_ty}
 use Rattle.meaning.specs.Classes.{ClassEnv, resolve}
 use Rattle.meaning.specs.Reduce.{Removed, simplify_context}

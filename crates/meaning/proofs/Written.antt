@@ -1,5 +1,5 @@
 -- Session files as they are written by hand: names as texts.
-use mathlib.Core.List.{List, [], ◌∷◌, map}
+use mathlib.Core.List.{List, map}
 use Prim.Native.String.{String}
 use Rattle.meaning.specs.Ast.{Name, called, named, Ty, Tys, var, con, Pred, pred, Expr, evar, eabs, elet, Decl, class_decl, instance_decl, let_decl, check_decl}
 

@@ -1,8 +1,8 @@
 -- 003, ast.rs: names, types, predicates, schemes, expressions, core terms, declarations.
-use Rattle.std.specs.Prelude.{◌≡◌, Bool, true, false, List, [], ◌∷◌, ℕ, suc, zero, ◌+◌}
+use Rattle.std.specs.Prelude.{◌≡◌, Bool, true, false, List, [], ◌∷◌, ℕ, suc, ◌+◌}
 use Prim.Native.String.{String}
 use Rattle.std.proofs.Math.Decide.{ℕ_discrete}
-use Rattle.meaning.specs.Base.{is_yes, if, eqb, ltb}
+use Rattle.meaning.specs.Base.{if, eqb, ltb}
 use Rattle.meaning.specs.Text.{quoted, packed, decimal}
 
 -- A name as the file writes it, and the letters and built-in names beside it: its bytes, zeros after them, as a

@@ -1,8 +1,8 @@
 -- Computations that spend steps and may refuse: Rust's `Result` and `?`, with document 01's budget.
-use Rattle.std.specs.Prelude.{Bool, true, false, ℕ, suc, zero, ◌-◌}
+use Rattle.std.specs.Prelude.{ℕ, suc, zero, ◌-◌}
 use Rattle.std.proofs.Math.Option.{Option, none, some}
 use Rattle.meaning.specs.Base.{if, ltb}
-use Rattle.meaning.specs.Errors.{Refusal, out-of-steps, too_deep, added}
+use Rattle.meaning.specs.Errors.{Refusal, out-of-steps, added}
 
 -- An answer or a refusal, and the steps that are left.
 pub data Out (A : Type 0) : Type 0 where

@@ -3,8 +3,8 @@ use Rattle.std.specs.Prelude.{Bool, true, false, List, [], ◌∷◌, ◌++◌, 
 use Rattle.std.proofs.Math.Option.{Option, none, some}
 use Rattle.meaning.specs.Base.{is_yes, if, found, first}
 use Rattle.meaning.specs.Ast.{Name, same_name, Field, super, Ty, Pred, pred, same_pred, Core, Cores, dict_app, dict_proj, dict_rec, cnil, ◌◃◌, ClassDecl}
-use Rattle.meaning.specs.Errors.{Refusal, too_deep, no_instance, unknown_class, missing_superclass, duplicate_instance}
-use Rattle.meaning.specs.Budget.{Out, done, refused, Steps, after, ◌>>=◌, pure, refuse, step, depth, attempt, or_refuse}
+use Rattle.meaning.specs.Errors.{too_deep, no_instance, unknown_class, missing_superclass, duplicate_instance}
+use Rattle.meaning.specs.Budget.{Steps, ◌>>=◌, pure, refuse, step, depth, attempt, or_refuse}
 use Rattle.meaning.specs.Map.{Map, names, get, insert}
 use Rattle.meaning.specs.Subst.{Subst, apply_type, apply_preds}
 use Rattle.meaning.specs.Unify.{match_ty, match_pred}

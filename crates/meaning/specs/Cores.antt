@@ -1,10 +1,10 @@
 -- 000, infer.rs: walks over core terms, and canonical names.
-use Rattle.std.specs.Prelude.{Bool, true, false, List, [], ◌∷◌, map, ℕ, suc, zero}
+use Rattle.std.specs.Prelude.{Bool, List, [], ◌∷◌, map, ℕ, suc, zero}
 use Rattle.std.proofs.Math.Option.{Option, none, some}
 use Rattle.meaning.specs.Base.{if, ltb}
-use Rattle.meaning.specs.Ast.{Name, TyVar, named, fresh, tyvar_before, letter, DictName, Ty, var, Pred, Qual, Scheme, forall, Core, Cores, cvar, cdict, cint, cbool, cabs, capp, clet, dict_abs, dict_app, dict_proj, dict_rec, cnil, ◌◃◌, Binder}
-use Rattle.meaning.specs.Errors.{Refusal, too_deep}
-use Rattle.meaning.specs.Budget.{Out, done, refused, Steps, after, ◌>>=◌, pure, refuse, step, depth}
+use Rattle.meaning.specs.Ast.{TyVar, named, fresh, tyvar_before, letter, DictName, var, Qual, Scheme, forall, Core, Cores, cvar, cdict, cint, cbool, cabs, capp, clet, dict_abs, dict_app, dict_proj, dict_rec, cnil, ◌◃◌, Binder}
+use Rattle.meaning.specs.Errors.{too_deep}
+use Rattle.meaning.specs.Budget.{Steps, ◌>>=◌, pure, refuse, step, depth}
 use Rattle.meaning.specs.Map.{Map, dicts, tyvars, get, insert, remove}
 use Rattle.meaning.specs.Subst.{Subst, apply_type, apply_preds_pending, apply_qual, ftv_qual}
 

@@ -1,18 +1,18 @@
 -- 000, infer.rs: the declarations, and a checked expression.
-use Rattle.std.specs.Prelude.{Bool, true, false, List, [], ◌∷◌, ◌++◌, map, ℕ, suc, zero, ◌+◌, ◌*◌}
+use Rattle.std.specs.Prelude.{List, [], ◌∷◌, ◌++◌, ℕ, suc, ◌+◌, ◌*◌}
 use Rattle.std.proofs.Math.Option.{Option, none, some}
 use Rattle.meaning.specs.Base.{is_yes, if, any, first, total, count}
 use Rattle.meaning.specs.Ast.{Name, same_name, tyvar_before, DictName, ctx, self, Field, method, super, Ty, var, size, Pred, pred, same_pred, Qual, qual, Scheme, forall, Expr, Core, Cores, cvar, cdict, cint, cbool, cabs, capp, clet, dict_abs, dict_app, dict_proj, dict_rec, cnil, ◌◃◌, Binder, ClassDecl, InstanceDecl}
-use Rattle.meaning.specs.Errors.{Refusal, no_instance, unknown_class, unknown_method, missing_method}
-use Rattle.meaning.specs.Budget.{Out, done, refused, or_refuse, spend, Steps, after}
-use Rattle.meaning.specs.Map.{Map, names, dicts, get, insert}
+use Rattle.meaning.specs.Errors.{no_instance, unknown_class, unknown_method, missing_method}
+use Rattle.meaning.specs.Budget.{done, refused, or_refuse, spend, Steps, after}
+use Rattle.meaning.specs.Map.{Map, names, dicts, insert}
 use Rattle.meaning.specs.Subst.{Subst, singleton, apply_type, apply_preds_pending, compose, ftv_qual}
 use Rattle.meaning.specs.Unify.{unify}
-use Rattle.meaning.specs.Classes.{ClassEnv, ClassInfo, InstanceInfo, Given, class_of, resolve, add_class, add_instance}
+use Rattle.meaning.specs.Classes.{ClassEnv, ClassInfo, Given, class_of, resolve, add_class, add_instance}
 use Rattle.meaning.specs.Reduce.{Discharged, reduce, roots}
 use Rattle.meaning.specs.Cores.{subst_core, sort_by}
 use Rattle.meaning.specs.Generalize.{Pending, Env, preds_of, generalize_binding, finalize_expr}
-use Rattle.meaning.specs.Infer.{State, Run, ◌>>=◌, pure, lift, ask_env, with_env, env_insert, infer_expr}
+use Rattle.meaning.specs.Infer.{Run, ◌>>=◌, pure, lift, ask_env, with_env, env_insert, infer_expr}
 
 -- The type-tree nodes of signatures.
 unfoldable pub sig_nodes : List (Name × Ty) → ℕ

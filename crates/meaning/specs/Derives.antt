@@ -1,9 +1,9 @@
 -- Derivations, as document 01 words them: without steps, without depth, without an order of search.
-use Rattle.std.specs.Prelude.{◌≡◌, Bool, true, false, ℕ}
+use Rattle.std.specs.Prelude.{◌≡◌, false, ℕ}
 use mathlib.Core.List.{List, [], ◌∷◌, Memᴰ}
-use Rattle.std.proofs.Math.Option.{Option, none, some}
+use Rattle.std.proofs.Math.Option.{some}
 use Rattle.meaning.specs.Base.{nth}
-use Rattle.meaning.specs.Ast.{Name, TyVar, super, Ty, var, Pred, pred, Core, Cores, dict_proj, dict_rec, cnil, ◌◃◌}
+use Rattle.meaning.specs.Ast.{Name, TyVar, super, var, Pred, pred, Core, Cores, dict_proj, dict_rec, cnil, ◌◃◌}
 use Rattle.meaning.specs.Subst.{occurs}
 use Rattle.meaning.specs.Plain.{Fill, sub, sub_preds}
 use Rattle.meaning.specs.Classes.{ClassEnv, ClassInfo, InstanceInfo, Given, class_of, applied}

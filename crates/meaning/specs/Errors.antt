@@ -1,5 +1,5 @@
 -- 005, errors.rs, and the refusals that the port adds: document 01's number and values for each.
-use Rattle.std.specs.Prelude.{Bool, true, false, List, [], ◌∷◌, ℕ}
+use Rattle.std.specs.Prelude.{Bool, List, [], ◌∷◌, ℕ}
 use Rattle.meaning.specs.Base.{ltb}
 use Rattle.meaning.specs.Ast.{Name, TyVar, Ty, Pred}
 

@@ -1,10 +1,10 @@
 -- 000, infer.rs: generalize_binding and finalize_expr.
-use Rattle.std.specs.Prelude.{Bool, true, false, not, ◌&&◌, ◌||◌, List, [], ◌∷◌, ◌++◌, map}
+use Rattle.std.specs.Prelude.{Bool, not, ◌&&◌, ◌||◌, List, [], ◌∷◌, ◌++◌, map}
 use Rattle.std.proofs.Math.Option.{Option, none, some}
 use Rattle.meaning.specs.Base.{is_yes, if, any, keep, first}
 use Rattle.meaning.specs.Ast.{Name, TyVar, DictName, same_dict, Ty, Pred, same_pred, Qual, qual, Scheme, Core, cdict, dict_abs, Binder}
-use Rattle.meaning.specs.Errors.{Refusal, ambiguous}
-use Rattle.meaning.specs.Budget.{Out, done, refused, Steps, after, ◌>>=◌, pure, refuse}
+use Rattle.meaning.specs.Errors.{ambiguous}
+use Rattle.meaning.specs.Budget.{Steps, ◌>>=◌, pure, refuse}
 use Rattle.meaning.specs.Map.{Map, dicts, tyvars, insert, elem}
 use Rattle.meaning.specs.Subst.{ftv_type, ftv_qual, ftv_scheme, without}
 use Rattle.meaning.specs.Classes.{ClassEnv}

@@ -1,11 +1,11 @@
 -- 000, infer.rs: what inference changes, and infer_expr. Classes and instances stand still while it runs.
-use Rattle.std.specs.Prelude.{Bool, true, false, List, [], ◌∷◌, ◌++◌, ℕ, suc, zero}
+use Rattle.std.specs.Prelude.{List, [], ◌∷◌, ◌++◌, ℕ, suc, zero}
 use Rattle.std.proofs.Math.Option.{Option, none, some}
 use Rattle.meaning.specs.Base.{is_yes, first}
 use Rattle.meaning.specs.Ast.{Name, same_name, TyVar, fresh, DictName, dvar, method, Ty, var, arrow, int, bool, Pred, qual, Scheme, forall, Expr, evar, eint, ebool, eabs, eapp, elet, Core, Cores, cvar, cdict, cint, cbool, cabs, capp, clet, dict_app, dict_proj, cnil, ◌◃◌, Binder}
-use Rattle.meaning.specs.Errors.{Refusal, too_deep, unbound_variable, unknown_method}
-use Rattle.meaning.specs.Budget.{Out, done, refused, Steps, after, step, or_refuse, depth}
-use Rattle.meaning.specs.Map.{Map, names, tyvars, get, insert, remove}
+use Rattle.meaning.specs.Errors.{too_deep, unbound_variable, unknown_method}
+use Rattle.meaning.specs.Budget.{done, refused, Steps, after, step, or_refuse, depth}
+use Rattle.meaning.specs.Map.{names, tyvars, get, insert, remove}
 use Rattle.meaning.specs.Subst.{Subst, empty, apply_type, apply_pred, apply_preds_pending, apply_scheme, compose}
 use Rattle.meaning.specs.Unify.{unify}
 use Rattle.meaning.specs.Classes.{ClassEnv, ClassInfo, lookup_method}

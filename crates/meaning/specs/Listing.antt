@@ -1,9 +1,9 @@
 -- The listing's text: each thing's bytes before what follows.
-use Rattle.std.specs.Prelude.{Bool, true, false, List, [], ◌∷◌, ℕ, suc, zero, ◌*◌}
+use Rattle.std.specs.Prelude.{Bool, true, false, List, [], ◌∷◌, ℕ, suc, ◌*◌}
 use Prim.Native.String.{String}
 use Rattle.meaning.specs.Base.{if, ltb, count}
 use Rattle.meaning.specs.Text.{Text, quoted, decimal, unpacked}
-use Rattle.meaning.specs.Ast.{Name, name, TyVar, named, fresh, DictName, dvar, ctx, self, Field, method, super, Ty, Tys, var, con, arrow, nil, ◌◂◌, Pred, Qual, Scheme, Core, Cores, cvar, cdict, cint, cbool, cabs, capp, clet, dict_abs, dict_app, dict_proj, dict_rec, cnil, ◌◃◌, Binder, Decl}
+use Rattle.meaning.specs.Ast.{Name, name, TyVar, named, fresh, DictName, dvar, ctx, self, Field, method, super, Ty, Tys, var, con, arrow, nil, ◌◂◌, Pred, Qual, Core, Cores, cvar, cdict, cint, cbool, cabs, capp, clet, dict_abs, dict_app, dict_proj, dict_rec, cnil, ◌◃◌, Binder, Decl}
 use Rattle.meaning.specs.Errors.{Refusal, room, output, number, Value, a_number, a_name, a_variable, a_type, values, added}
 use Rattle.meaning.specs.Reader.{Read, got, bad}
 use Rattle.meaning.specs.File.{File, read}

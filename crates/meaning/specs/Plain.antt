@@ -1,5 +1,5 @@
 -- What substitutions mean: total maps from variables to types, without steps and without depth.
-use Rattle.std.specs.Prelude.{◌≡◌, List, map}
+use Rattle.std.specs.Prelude.{List, map}
 use Rattle.meaning.specs.Ast.{TyVar, Ty, Tys, var, con, arrow, nil, ◌◂◌, Pred, pred}
 use Rattle.meaning.specs.Subst.{Subst, look}
 

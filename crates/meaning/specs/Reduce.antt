@@ -3,7 +3,7 @@ use Rattle.std.specs.Prelude.{Bool, true, false, ◌&&◌, List, [], ◌∷◌, 
 use Rattle.std.proofs.Math.Option.{Option, none, some}
 use Rattle.meaning.specs.Base.{is_yes, if, any}
 use Rattle.meaning.specs.Ast.{DictName, Ty, var, con, arrow, Pred, same_pred, Core, cvar, cdict, cint, cbool, cabs, capp, clet, dict_abs, dict_app, dict_proj, dict_rec, Binder}
-use Rattle.meaning.specs.Budget.{Out, done, refused, Steps, after, ◌>>=◌, pure}
+use Rattle.meaning.specs.Budget.{Steps, ◌>>=◌, pure}
 use Rattle.meaning.specs.Classes.{ClassEnv, Given, resolve, resolve_from_givens, from_givens}
 
 -- A predicate, and the dictionary that was found for it.

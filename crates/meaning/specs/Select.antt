@@ -1,10 +1,10 @@
 -- Selection, demand 3: what a path of superclass fields and then a method finds in a dictionary.
-use Rattle.std.specs.Prelude.{◌≡◌, Bool, true, false, ℕ, suc, zero}
-use mathlib.Core.List.{List, [], ◌∷◌, Memᴰ}
+use Rattle.std.specs.Prelude.{◌≡◌, ℕ, suc, zero}
+use mathlib.Core.List.{List, [], Memᴰ}
 use Rattle.std.proofs.Math.Option.{Option, none, some}
 use Rattle.meaning.specs.Base.{is_yes, if, first, nth}
-use Rattle.meaning.specs.Ast.{Name, TyVar, ctx, Field, method, super, same_field, Ty, var, pred, Core, Cores, cdict, dict_app, dict_proj, dict_rec, cnil, ◌◃◌}
-use Rattle.meaning.specs.Budget.{Out, done, refused}
+use Rattle.meaning.specs.Ast.{Name, ctx, Field, method, super, same_field, Ty, var, pred, Core, Cores, cdict, dict_app, dict_proj, dict_rec, cnil, ◌◃◌}
+use Rattle.meaning.specs.Budget.{done}
 use Rattle.meaning.specs.Subst.{occurs}
 use Rattle.meaning.specs.Plain.{Fill, sub}
 use Rattle.meaning.specs.Classes.{ClassEnv, ClassInfo, InstanceInfo, class_of, resolve}

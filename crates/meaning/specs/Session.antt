@@ -1,13 +1,13 @@
 -- Sessions: the checker, what it keeps, and a declaration as a call with budget, work buffer and binder list.
-use Rattle.std.specs.Prelude.{Bool, true, false, ◌||◌, List, [], ◌∷◌, ℕ, suc, zero, ◌+◌, ◌*◌, ◌-◌}
+use Rattle.std.specs.Prelude.{Bool, true, false, ◌||◌, List, [], ◌∷◌, ℕ, ◌+◌, ◌*◌, ◌-◌}
 use Rattle.std.proofs.Math.Option.{Option, none, some}
 use Rattle.meaning.specs.Base.{if, ltb, total}
-use Rattle.meaning.specs.Ast.{Name, called, Ty, arrow, int, bool, size, Pred, Qual, Scheme, Core, ClassDecl, Decl, class_decl, instance_decl, let_decl, check_decl}
+use Rattle.meaning.specs.Ast.{Name, called, Ty, arrow, int, bool, size, Qual, Scheme, Core, ClassDecl, Decl, class_decl, instance_decl, let_decl, check_decl}
 use Rattle.meaning.specs.Errors.{Refusal, limit, room, redeclared}
-use Rattle.meaning.specs.Budget.{Out, done, refused, Steps}
+use Rattle.meaning.specs.Budget.{Out, done, refused}
 use Rattle.meaning.specs.Classes.{ClassEnv, ClassInfo, InstanceInfo, class_of, no_classes}
 use Rattle.meaning.specs.Generalize.{Env}
-use Rattle.meaning.specs.Infer.{State, Run, mono}
+use Rattle.meaning.specs.Infer.{State, mono}
 use Rattle.meaning.specs.Declare.{sig_nodes, pred_nodes, field_nodes, process_class_decl, process_instance_decl, process_let_decl, check_expr}
 
 -- `Checker`: what inference changes, and the classes and instances that stand still meanwhile.

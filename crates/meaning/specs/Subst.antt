@@ -1,11 +1,11 @@
 -- 002, subst.rs: substitutions, what they do to types, and free variables.
-use Rattle.std.specs.Prelude.{Bool, true, false, not, ◌||◌, List, [], ◌∷◌, map, ℕ, suc, zero}
+use Rattle.std.specs.Prelude.{Bool, false, not, ◌||◌, List, [], ◌∷◌, ℕ, suc, zero}
 use Rattle.std.proofs.Math.Option.{Option, none, some}
 use Rattle.meaning.specs.Base.{is_yes, if, null, keep}
 use Rattle.meaning.specs.Ast.{TyVar, same_tyvar, Ty, Tys, var, con, arrow, nil, ◌◂◌, same_ty, Pred, pred, Qual, qual, Scheme, forall, Binder}
-use Rattle.meaning.specs.Errors.{Refusal, too_deep, unification_failure}
-use Rattle.meaning.specs.Budget.{Out, done, refused, Steps, after, ◌>>=◌, pure, refuse, step, depth}
-use Rattle.meaning.specs.Map.{Map, tyvars, get, insert, remove, or_insert, elem}
+use Rattle.meaning.specs.Errors.{too_deep, unification_failure}
+use Rattle.meaning.specs.Budget.{Steps, ◌>>=◌, pure, refuse, step, depth}
+use Rattle.meaning.specs.Map.{Map, tyvars, get, remove, or_insert, elem}
 
 -- `Subst`: pairs in the byte order of the variables.
 abbrev pub Subst : Type 0

@@ -1,9 +1,9 @@
 -- 002, subst.rs: unification and matching.
-use Rattle.std.specs.Prelude.{Bool, true, false, ◌&&◌, List, [], ◌∷◌, ℕ, suc, zero}
+use Rattle.std.specs.Prelude.{◌&&◌, ℕ, suc, zero}
 use Rattle.meaning.specs.Base.{is_yes, if, eqb}
 use Rattle.meaning.specs.Ast.{Name, same_name, TyVar, same_tyvar, Ty, Tys, var, con, arrow, nil, ◌◂◌, count_tys, Pred}
-use Rattle.meaning.specs.Errors.{Refusal, too_deep, unification_failure, occurs_check, con_mismatch, arity_mismatch}
-use Rattle.meaning.specs.Budget.{Out, done, refused, Steps, after, ◌>>=◌, pure, refuse, step, depth}
+use Rattle.meaning.specs.Errors.{too_deep, unification_failure, occurs_check, con_mismatch, arity_mismatch}
+use Rattle.meaning.specs.Budget.{Steps, ◌>>=◌, pure, refuse, step, depth}
 use Rattle.meaning.specs.Subst.{Subst, empty, singleton, apply_type, compose, merge, occurs}
 
 -- `bind` of a variable to a type that is another one.

@@ -7,11 +7,11 @@ use mathlib.Core.Option.{Option, none, some}
 use mathlib.Core.Logic.{◌≢◌, ◌⊎◌, inl, inr}
 use Prim.Native.Nat.{ℕ}
 use Rattle.meaning.specs.Base.{is_yes, if, any, first}
-use Rattle.meaning.specs.Ast.{Name, same_name, Field, method, super, Ty, Pred, pred, Expr, Core, ClassDecl, InstanceDecl, class_decl}
+use Rattle.meaning.specs.Ast.{Name, same_name, Field, method, super, Ty, pred, Expr, Core, ClassDecl, InstanceDecl, class_decl}
 use Rattle.meaning.specs.Errors.{unknown_class}
 use Rattle.meaning.specs.Budget.{Out, done, refused, or_refuse, depth}
 use Rattle.meaning.specs.Subst.{Subst, singleton}
-use Rattle.meaning.specs.Classes.{ClassEnv, ClassInfo, InstanceInfo, Given, class_of, resolve_in, resolve, with_class, add_class, with_instance, add_instance}
+use Rattle.meaning.specs.Classes.{ClassEnv, ClassInfo, InstanceInfo, Given, class_of, resolve, with_class, add_class, with_instance, add_instance}
 use Rattle.meaning.specs.Infer.{State}
 use Rattle.meaning.specs.Declare.{context_givens, process_class_decl, method_cores, default_cores, super_cores, process_instance_decl}
 use Rattle.meaning.specs.Derives.{Derives}

@@ -1,9 +1,7 @@
 -- The accepted calls of a session answer what they would answer alone: what was refused in between leaves no trace.
-use mathlib.Core.Path.{◌≡◌, refl, ap, sym, subst}
+use mathlib.Core.Path.{◌≡◌, refl, ap, subst}
 use mathlib.Core.Bool.{Bool, true, false}
 use mathlib.Core.List.{List, [], ◌∷◌}
-use Prim.Native.Nat.{ℕ}
-use native.Mathlib.Omega.{arith}
 use Rattle.meaning.specs.Base.{if, keep}
 use Rattle.meaning.specs.Session.{Checker, Result, accepted, scheme_of, typed, refusal, Answer, Call, call, calls, after_calls, is_accepted, accepted_calls, Reached, after_call}
 use Rattle.theorems.proofs.Refused.{refused_stands}

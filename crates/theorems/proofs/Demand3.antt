@@ -1,5 +1,4 @@
 -- Demand 3: what resolution gives is derived, reached environments are sound, and so every path finds its field.
-use mathlib.Core.Path.{◌≡◌}
 use mathlib.Core.List.{[]}
 use Rattle.meaning.specs.Ast.{pred}
 use Rattle.meaning.specs.Budget.{depth}

@@ -1,15 +1,13 @@
 -- Laws of substitutions as total maps.
 use mathlib.Core.Path.{◌≡◌, refl, ap, ap₂, sym, ◌∙◌, fun_ext}
-use mathlib.Core.Bool.{Bool, true, false, ◌||◌, true≢false, false≢true}
-use mathlib.Core.Logic.{◌≢◌}
-use Prim.Native.Nat.{ℕ, suc, zero, ◌+◌, ◌≤◌, ◌<◌}
+use mathlib.Core.Bool.{true, false≢true}
+use Prim.Native.Nat.{suc, ◌≤◌}
 use native.Mathlib.Omega.{arith}
-use Rattle.meaning.specs.Base.{is_yes}
 use Rattle.meaning.specs.Ast.{TyVar, same_tyvar, Ty, Tys, var, con, arrow, nil, ◌◂◌, count_tys, size, sizes}
 use Rattle.meaning.specs.Subst.{occurs, occurs_in}
 use Rattle.meaning.specs.Plain.{Fill, sub, subs}
 use Rattle.theorems.proofs.Types.{heads, tails, con_args, arrow_left, arrow_right}
-use Rattle.theorems.proofs.Tests.{is_yes_true, is_yes_false, is_yes_of, or_cases, or_false_left, or_false_right, or_left, or_right}
+use Rattle.theorems.proofs.Tests.{is_yes_true, is_yes_of, or_cases, or_left, or_right}
 
 mutual
   unfolding sub

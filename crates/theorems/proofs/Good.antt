@@ -1,7 +1,7 @@
 -- Dictionaries in which every path of superclass fields can be followed, and what such a path and then a method finds.
 use mathlib.Core.Path.{◌≡◌, ◌∙◌}
-use mathlib.Core.List.{List, [], ◌∷◌, Memᴰ}
-use mathlib.Core.Option.{Option, none, some}
+use mathlib.Core.List.{Memᴰ}
+use mathlib.Core.Option.{some}
 use Prim.Native.Nat.{ℕ}
 use Rattle.meaning.specs.Base.{nth}
 use Rattle.meaning.specs.Ast.{Name, Field, method, super, Ty, Core}
@@ -34,7 +34,7 @@ pub weaker : {ce : ClassEnv} {P Q : Ty → Type 0} {c : Name} {v : Dict} → ((b
 weaker f (good {a = a} at class fills here-is methods w ps gs) = good at class fills (f a here-is) methods w ps (λ ci k s h. weaker f (gs ci k s h))
 
 -- What demand 3 asks: from a dictionary that is good at a type, every way up and then a method finds its field there.
-pub way_found : {ce : ClassEnv} {c z : Name} {a : Ty} {v : Dict} → Good ce (At a) c v → (p : Way ce c z)
+pub way_found : {ce : ClassEnv} {a : Ty} {c z : Name} {v : Dict} → Good ce (At a) c v → (p : Way ce c z)
     → (ci : ClassInfo) (g : Name × Ty) → class_of ce z ≡ some ci → Memᴰ g ci.sigs
     → (u : Dict) × Follows ce c z p v u × Found ce z a g.0 u
 way_found (good {c = c} {a = b} {i = i} {θ = θ} {vs = vs} {inst = inst} at class fills same methods w ps gs) here ci g k m =

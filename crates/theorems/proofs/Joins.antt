@@ -8,7 +8,7 @@ use Rattle.meaning.specs.Base.{is_yes, if}
 use Rattle.meaning.specs.Ast.{TyVar, same_tyvar, Ty, same_ty}
 use Rattle.meaning.specs.Errors.{Refusal, unification_failure}
 use Rattle.meaning.specs.Budget.{pure, refuse}
-use Rattle.meaning.specs.Map.{Keys, Map, tyvars, get, insert, or_insert}
+use Rattle.meaning.specs.Map.{tyvars, get, insert, or_insert}
 use Rattle.meaning.specs.Subst.{Subst, or_var, look, agree_at, agree, merge}
 use Rattle.meaning.specs.Plain.{Fill}
 use Rattle.theorems.proofs.Says.{Says, Definite, after_says, weaken}

@@ -3,10 +3,9 @@ use mathlib.Core.Path.{◌≡◌, refl, ap, sym, ◌∙◌, subst}
 use mathlib.Core.Bool.{Bool, true, false, not, ◌&&◌, true≢false}
 use mathlib.Core.List.{List, [], ◌∷◌}
 use mathlib.Core.Option.{Option, none, some}
-use mathlib.Core.Logic.{◌≢◌}
 use Prim.Native.Nat.{ℕ}
 use Rattle.meaning.specs.Base.{is_yes, if, null}
-use Rattle.meaning.specs.Ast.{Name, same_name, TyVar, same_tyvar, tyvar_before, Ty, var, Qual, qual, Scheme, forall, Core}
+use Rattle.meaning.specs.Ast.{Name, same_name, TyVar, same_tyvar, tyvar_before, Ty, var, Qual, Scheme, forall, Core}
 use Rattle.meaning.specs.Map.{Map, names, tyvars, get, insert, remove, elem}
 use Rattle.meaning.specs.Subst.{Subst, or_var, look, apply_qual, filtered, ftv_scheme, apply_scheme, occurs}
 use Rattle.meaning.specs.Cores.{sort_by, canonical_renamer, as_subst, images, apply_subst_to_core, canonical_scheme_and_core}

@@ -1,12 +1,12 @@
 -- Laws of maps: what is found after an insertion, for every list of pairs, in order or not.
-use mathlib.Core.Path.{◌≡◌, refl, ap, sym, ◌∙◌}
-use mathlib.Core.Bool.{Bool, true, false, not}
-use mathlib.Core.List.{List, [], ◌∷◌, foldr, map}
-use mathlib.Core.Option.{Option, none, some}
+use mathlib.Core.Path.{◌≡◌, refl, sym, ◌∙◌}
+use mathlib.Core.Bool.{Bool, true, false}
+use mathlib.Core.List.{[], ◌∷◌}
+use mathlib.Core.Option.{some}
 use mathlib.Core.Logic.{◌≢◌}
-use Rattle.meaning.specs.Base.{is_yes, if, keep}
-use Rattle.meaning.specs.Map.{Keys, Map, is, get, insert, remove, or_insert}
-use Rattle.theorems.proofs.Tests.{is_yes_true, is_yes_false, is_yes_of, is_no_of}
+use Rattle.meaning.specs.Base.{is_yes, if}
+use Rattle.meaning.specs.Map.{Keys, Map, get, insert}
+use Rattle.theorems.proofs.Tests.{is_yes_of, is_no_of}
 
 module _ {K A : Type 0} (k : Keys K) where
   -- The newest pair is found first.

@@ -16,7 +16,6 @@ use Rattle.meaning.specs.Plain.{Fill, sub, subs, filled}
 use Rattle.theorems.proofs.Says.{Says, Definite, after_says, step_says, weaken}
 use Rattle.theorems.proofs.Tests.{eqb_of, eqb_true}
 use Rattle.theorems.proofs.Types.{heads, tails, con_name, con_args, arrow_left, arrow_right, con_not_var, arrow_not_var, con_not_arrow}
-use Rattle.theorems.proofs.Maps.{get_cons_same}
 use Rattle.theorems.proofs.Fills.{count_subs}
 use Rattle.theorems.proofs.Joins.{Holds, is_some, has, Joined, merge_says}
 use Rattle.theorems.proofs.Looks.{look_same}

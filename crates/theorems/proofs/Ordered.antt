@@ -1,5 +1,5 @@
 -- Maps stay in the order of their keys, and a map in order is known by what is found in it.
-use mathlib.Core.Path.{◌≡◌, refl, sym, ◌∙◌}
+use mathlib.Core.Path.{◌≡◌, refl, sym, ◌∙◌, ap}
 use mathlib.Core.Bool.{Bool, true, false, not}
 use mathlib.Core.List.{[], ◌∷◌}
 use mathlib.Core.Option.{none, some}
@@ -109,7 +109,7 @@ module _ {K A : Type 0} (k : Keys K) (o : Ordered k) where
 
       value : p.0 ≡ q.0 → p.1 ≡ q.1
       value e =
-          let i : get k p.0 (q ∷ t) ≡ some q.1 = rw e (get_cons_same k q.0 q.1 t) in
+          let i : get k p.0 (q ∷ t) ≡ some q.1 = ap (λ x. get k x (q ∷ t)) e ∙ get_cons_same k q.0 q.1 t in
           some_inj p.1 q.1 (sym (get_cons_same k p.0 p.1 s) ∙ h p.0 ∙ i)
 
       go : Dec (p.0 ≡ q.0) → (b : Bool) → k.before p.0 q.0 ≡ b → (((x : K) → get k x s ≡ get k x t) → s ≡ t) → p ∷ s ≡ q ∷ t

@@ -1,10 +1,9 @@
 -- Selection is a function: a stored dictionary is read in one way only, and so is a superclass field.
 use mathlib.Core.Path.{◌≡◌, refl, ap, ap₂, sym, ◌∙◌, subst, fun_ext}
-use mathlib.Core.Bool.{Bool, true, false}
 use mathlib.Core.Option.{some}
 use Prim.Native.Nat.{ℕ}
 use Rattle.meaning.specs.Base.{nth}
-use Rattle.meaning.specs.Ast.{TyVar, Field, Ty, Pred, pred, Core, Cores}
+use Rattle.meaning.specs.Ast.{Field, Ty, Pred, pred, Core, Cores}
 use Rattle.meaning.specs.Plain.{Fill, sub}
 use Rattle.meaning.specs.Classes.{ClassEnv, InstanceInfo}
 use Rattle.meaning.specs.Derives.{Takes}

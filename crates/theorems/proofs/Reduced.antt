@@ -9,10 +9,10 @@ use Prim.Native.Nat.{ℕ}
 use Rattle.meaning.specs.Base.{is_yes, if}
 use Rattle.meaning.specs.Ast.{self, Pred, same_pred, Core, cdict}
 use Rattle.meaning.specs.Budget.{depth}
-use Rattle.meaning.specs.Classes.{ClassEnv, Given, from_givens, resolve_from_givens, resolve_in, resolve}
+use Rattle.meaning.specs.Classes.{ClassEnv, Given, resolve_from_givens, resolve}
 use Rattle.meaning.specs.Derives.{Entry, itself, Derives, by_given}
 use Rattle.meaning.specs.Reduce.{Discharged, is_head_normal, contains, discharge, reduce_one, reduce_from, reduce}
-use Rattle.theorems.proofs.Says.{Says, Any, Limit, and_then, weaken, if_says}
+use Rattle.theorems.proofs.Says.{Says, Any, and_then, weaken, if_says}
 use Rattle.theorems.proofs.Tests.{is_yes_true, is_yes_false}
 use Rattle.theorems.proofs.Members.{Distinct, contains_true, contains_false, distinct_snoc, snoc_cases}
 use Rattle.theorems.proofs.Entries.{Searched, givens_say}

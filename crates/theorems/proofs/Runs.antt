@@ -6,9 +6,9 @@ use mathlib.Core.Option.{Option, none, some}
 use Prim.Native.Nat.{ℕ}
 use Rattle.meaning.specs.Base.{if}
 use Rattle.meaning.specs.Errors.{Refusal}
-use Rattle.meaning.specs.Budget.{Out, done, refused, Steps, after, or_refuse}
+use Rattle.meaning.specs.Budget.{Out, done, refused, after, or_refuse}
 use Rattle.meaning.specs.Infer.{State, Run}
-use Rattle.theorems.proofs.Says.{Says, Any, and_then, past, anything}
+use Rattle.theorems.proofs.Says.{Says, Any, and_then, past}
 
 abbrev pub RunSays : {A : Type 0} → (A → Type 0) → Out (A × State) → Type 0
 RunSays P o = Says (λ r. P r.0) Any o

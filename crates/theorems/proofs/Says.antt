@@ -2,7 +2,6 @@
 -- again, line for line.
 use mathlib.Core.Path.{◌≡◌, refl, subst}
 use mathlib.Core.Bool.{Bool, true, false}
-use mathlib.Core.Option.{Option, none, some}
 use Prim.Native.Nat.{ℕ, suc, zero}
 use Rattle.meaning.specs.Base.{if}
 use Rattle.meaning.specs.Errors.{Refusal, format, limit, reserved, redeclared, room, out-of-steps, too_deep, output, unbound_variable, unification_failure, occurs_check, con_mismatch, arity_mismatch, no_instance, ambiguous, duplicate_instance, unknown_class, unknown_method, missing_superclass, missing_method}

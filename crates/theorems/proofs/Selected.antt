@@ -3,18 +3,18 @@
 use mathlib.Core.Path.{◌≡◌, refl, ap, sym, ◌∙◌, subst}
 use mathlib.Core.Bool.{Bool, true, false}
 use mathlib.Core.List.{List, [], ◌∷◌, Memᴰ}
-use mathlib.Core.Option.{Option, none, some}
+use mathlib.Core.Option.{some}
 use Prim.Native.Nat.{ℕ, suc, zero, ◌+◌, ◌<◌}
 use native.Mathlib.Omega.{arith}
 use Rattle.meaning.specs.Base.{if, nth, count}
-use Rattle.meaning.specs.Ast.{Name, ctx, Field, method, super, Ty, var, Pred, pred, Core, Cores, cdict, dict_rec, cnil, ◌◃◌}
+use Rattle.meaning.specs.Ast.{Name, ctx, Field, method, super, Ty, var, Pred, Core, Cores, cdict, dict_rec, cnil, ◌◃◌}
 use Rattle.meaning.specs.Subst.{occurs}
 use Rattle.meaning.specs.Plain.{Fill, sub, sub_pred, sub_preds}
 use Rattle.meaning.specs.Classes.{ClassEnv, ClassInfo, InstanceInfo, Given, class_of, applied}
 use Rattle.meaning.specs.Declare.{context_binders, context_givens}
 use Rattle.meaning.specs.Reduce.{roots}
 use Rattle.meaning.specs.Derives.{Entry, itself, above, Takes, Derives, by_given, by_instance, DeriveAll, none_left, one_more}
-use Rattle.meaning.specs.Select.{Dict, Dicts, dict, alone, ◌and◌, nth_dict, field_of, outward, Reads, a_name, a_field, a_record, applied_to, ReadAll, no_more, and_more, Picks, picks}
+use Rattle.meaning.specs.Select.{Dict, Dicts, dict, alone, ◌and◌, nth_dict, field_of, outward, Reads, a_name, a_field, a_record, applied_to, ReadAll, no_more, and_more, picks}
 use Rattle.theorems.proofs.Tests.{some_inj, none_some}
 use Rattle.theorems.proofs.Fills.{sub-sub, sub_var, sub-agree}
 use Rattle.theorems.proofs.Sound.{Older, SoundAt, Sound}
@@ -50,6 +50,7 @@ entry_type (above k h r) = entry_type r
 -- A given of an instance is the name of one of its context predicates.
 given_name : (c : Name) (k : ℕ) (ps : List Pred) (g : Given) → Memᴰ g (roots (context_binders c k ps)) → (j : ℕ) × (g.0 ≡ cdict (ctx c (k + j))) × (nth ps j ≡ some g.1)
 unfolding context_binders nth
+given_name c k [] g m = elim m [ ]
 given_name c k (p ∷ ps) g (Memᴰ.head e) = let z : k ≡ k + 0 = omega arith in (0, ap (λ (x : Given). x.0) e ∙ ap (λ i. cdict (ctx c i)) z, ap (λ (x : Given). some x.1) (sym e))
 given_name c k (p ∷ ps) g (Memᴰ.tail m) =
     let r = given_name c (suc k) ps g m in

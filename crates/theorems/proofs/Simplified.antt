@@ -1,6 +1,6 @@
 -- `simplify_context`: a binder that goes stands above one that stays.
 use mathlib.Core.Path.{◌≡◌, refl, sym, subst}
-use mathlib.Core.Bool.{Bool, true, ◌&&◌}
+use mathlib.Core.Bool.{true, ◌&&◌}
 use mathlib.Core.List.Memᴰ
 use mathlib.Core.List.{List, [], ◌∷◌, ◌++◌, append-nil, append_assoc, Memᴰ}
 use mathlib.Core.Option.{Option, none, some}
@@ -8,10 +8,10 @@ use mathlib.Core.Logic.{◌⊎◌, inl, inr}
 use Prim.Native.Nat.{ℕ}
 use Rattle.meaning.specs.Base.{is_yes}
 use Rattle.meaning.specs.Ast.{DictName, Pred, same_pred, Core, cdict, Binder}
-use Rattle.meaning.specs.Classes.{ClassEnv, Given, from_givens}
+use Rattle.meaning.specs.Classes.{ClassEnv, Given}
 use Rattle.meaning.specs.Derives.{Entry, itself}
 use Rattle.meaning.specs.Reduce.{Removed, not_root, roots, find_super_proof, sorted_out, simplify_from, simplify_context}
-use Rattle.theorems.proofs.Says.{Says, Any, Limit, after_says, weaken}
+use Rattle.theorems.proofs.Says.{Says, Any, after_says, weaken}
 use Rattle.theorems.proofs.Tests.{is_yes_true, and_left, and_right}
 use Rattle.theorems.proofs.Members.{snoc_cases}
 use Rattle.theorems.proofs.Weakens.{entry_trans, entry_from}

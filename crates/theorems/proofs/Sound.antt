@@ -1,11 +1,11 @@
 -- What an accepted instance has: its methods, and a derivation for each superclass from its context and from what stood
 -- when it was accepted.
 use mathlib.Core.Path.{◌≡◌}
-use mathlib.Core.List.{List, [], ◌∷◌, Memᴰ}
-use mathlib.Core.Option.{Option, none, some}
+use mathlib.Core.List.{Memᴰ}
+use mathlib.Core.Option.{some}
 use Prim.Native.Nat.{ℕ, ◌<◌}
 use Rattle.meaning.specs.Base.{nth}
-use Rattle.meaning.specs.Ast.{Name, Field, method, super, Ty, Pred, pred, Core}
+use Rattle.meaning.specs.Ast.{Name, Field, method, super, Ty, pred, Core}
 use Rattle.meaning.specs.Classes.{ClassEnv, ClassInfo, InstanceInfo, class_of}
 use Rattle.meaning.specs.Declare.{context_givens}
 use Rattle.meaning.specs.Derives.{Derives}

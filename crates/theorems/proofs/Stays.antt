@@ -7,7 +7,7 @@ use mathlib.Core.Logic.{◌≢◌}
 use Prim.Native.Nat.{ℕ}
 use Rattle.meaning.specs.Base.{is_yes, if, null, keep}
 use Rattle.meaning.specs.Ast.{Name, same_name, Scheme}
-use Rattle.meaning.specs.Budget.{Out, done, refused, Steps, after}
+use Rattle.meaning.specs.Budget.{Out, done, refused}
 use Rattle.meaning.specs.Map.{Keys, Map, names, get, insert, remove}
 use Rattle.meaning.specs.Subst.{Subst, apply_qual, filtered, ftv_scheme, apply_scheme}
 use Rattle.meaning.specs.Generalize.{Env}

@@ -1,13 +1,12 @@
 -- Tests as facts.
-use mathlib.Core.Path.{◌≡◌, refl, ap, sym, ◌∙◌, subst}
-use mathlib.Core.Bool.{Bool, true, false, not, ◌||◌, ◌&&◌, true≢false, false≢true}
-use mathlib.Core.List.{List, [], ◌∷◌}
+use mathlib.Core.Path.{◌≡◌, refl}
+use mathlib.Core.Bool.{Bool, true, false, ◌||◌, ◌&&◌, true≢false, false≢true}
 use mathlib.Core.Option.{Option, none, some}
 use mathlib.Core.Logic.{◌≢◌}
-use Prim.Native.Nat.{ℕ, suc, zero, ◌+◌, ◌<◌, ◌≤◌}
+use Prim.Native.Nat.{ℕ, ◌<◌, ◌≤◌}
 use native.Mathlib.Decide.{dec_lt, ℕ_discrete}
 use native.Mathlib.Omega.{arith}
-use Rattle.meaning.specs.Base.{is_yes, if, eqb, ltb}
+use Rattle.meaning.specs.Base.{is_yes, eqb, ltb}
 
 pub is_yes_true : {P : Type 0} (d : Dec P) → is_yes d ≡ true → P
 is_yes_true (yes p) e = p

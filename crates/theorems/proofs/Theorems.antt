@@ -1,12 +1,12 @@
 -- The results, in reader's form. Each is about the definitions of crate `meaning` alone; `unify`, `match_ty` and `resolve`
 -- are the budgeted ones, with whatever steps a caller gives them.
-use mathlib.Core.Path.{◌≡◌, subst}
-use mathlib.Core.List.{List, [], ◌∷◌, ◌++◌, Memᴰ}
+use mathlib.Core.Path.{◌≡◌}
+use mathlib.Core.List.{List}
 use mathlib.Core.Logic.{◌≢◌}
 use Prim.Native.Nat.{ℕ, ◌+◌, ◌≤◌}
 use Rattle.meaning.specs.Ast.{TyVar, Ty, size, Pred, Core, Binder, Decl, class_decl, instance_decl, let_decl, check_decl}
 use Rattle.meaning.specs.Errors.{Refusal, format, limit, reserved, redeclared, room, out-of-steps, too_deep, output, unbound_variable, unification_failure, occurs_check, con_mismatch, arity_mismatch, no_instance, ambiguous, duplicate_instance, unknown_class, unknown_method, missing_superclass, missing_method, number}
-use Rattle.meaning.specs.Budget.{Out, done, refused, depth}
+use Rattle.meaning.specs.Budget.{done, refused, depth}
 use Rattle.meaning.specs.Map.{tyvars}
 use Rattle.meaning.specs.Subst.{Subst, look}
 use Rattle.meaning.specs.Unify.{unify, match_ty}
@@ -16,7 +16,7 @@ use Rattle.meaning.specs.Reduce.{Discharged, Removed, reduce, simplify_context}
 use Rattle.meaning.specs.Session.{Checker, Reached, refusal, kept, declare}
 use Rattle.meaning.specs.Derives.{Derives, HeadsApart}
 use Rattle.meaning.specs.Select.{Demand3}
-use Rattle.theorems.proofs.Says.{Says, Any, Definite, of_done, of_refused}
+use Rattle.theorems.proofs.Says.{Any, Definite, of_done, of_refused}
 use Rattle.theorems.proofs.Unified.{Mgu, NoUnifier, unify_says}
 use Rattle.theorems.proofs.UnifyRefuses.{OfUnify, unify_refuses}
 use Rattle.theorems.proofs.Ordered.{Sorted}

@@ -2,7 +2,7 @@
 use mathlib.Core.Path.{◌≡◌}
 use Prim.Native.Nat.{ℕ}
 use native.Mathlib.Omega.{arith}
-use Rattle.meaning.specs.Ast.{Name, TyVar, Ty, Tys, var, con, arrow, nil, ◌◂◌}
+use Rattle.meaning.specs.Ast.{Name, TyVar, Ty, Tys, var, con, arrow, ◌◂◌}
 
 pub heads : (x y : Ty) (xs ys : Tys) → x ◂ xs ≡ y ◂ ys → x ≡ y
 heads x y xs ys e = cc

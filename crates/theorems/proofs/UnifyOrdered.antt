@@ -4,7 +4,7 @@ use Prim.Native.Nat.{ℕ, suc, zero}
 use Rattle.meaning.specs.Base.{is_yes, if, eqb}
 use Rattle.meaning.specs.Ast.{Name, same_name, TyVar, same_tyvar, Ty, Tys, var, con, arrow, nil, ◌◂◌, count_tys}
 use Rattle.meaning.specs.Errors.{occurs_check, con_mismatch, arity_mismatch, unification_failure}
-use Rattle.meaning.specs.Budget.{Out, done, refused, Steps, pure, refuse}
+use Rattle.meaning.specs.Budget.{Steps, pure, refuse}
 use Rattle.meaning.specs.Map.{tyvars}
 use Rattle.meaning.specs.Subst.{Subst, empty, singleton, apply_type, apply_values, compose, agree, merge, occurs}
 use Rattle.meaning.specs.Unify.{bind_other, bind, unify_zip, unify_con, unify_arrow, unify_node, unify_in, match_zip, match_node, match_in}
