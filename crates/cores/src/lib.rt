@@ -1,4 +1,6 @@
 // Core terms as words over the same tables as types: what a word says, and the nodes that inference and resolution make.
+#![tactic(auto)]
+
 ghost use Rattle.std.specs.Prelude.{◌≡◌, ◌++◌, ◌+◌, ◌*◌, ◌<◌, ◌≤◌, length};
 ghost use Rattle.names.specs.Names.{first_node};
 ghost use Rattle.cores.specs.Parts.{constant_part, node_part, read_part, is_below, part_of, pushed_four};

@@ -1,5 +1,7 @@
 // Rows of a table of names: the built-in names in rows 0 to 34, the names of a file from row 35 on. A row that holds no
 // name holds its own number, so that no two rows are equal.
+#![tactic(auto)]
+
 ghost use Rattle.std.specs.Prelude.{◌≡◌, ◌+◌, ◌*◌, ◌<◌, ◌≤◌, length, get_or};
 ghost use Rattle.std.proofs.Math.Option.{some};
 ghost use Rattle.meaning.specs.Base.{eqb, nth};
