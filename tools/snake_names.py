@@ -34,7 +34,7 @@ BY_HAND = {
     'of-preds': 'of_preds_lem', 'with-replaced': 'with_replaced_lem', 'fillBy': 'fill_cores_by',
     'put-row': 'put_row_lem', 'binders-from': 'binders_from_lem', 'late-row': 'late_row_lem', 'firsts-from': 'firsts_from_lem',
     'atVariable': 'waits_at_variable', 'Equals': 'equals', 'limit-of': 'limit_of_lem',
-    'with-row': 'with_row_lem', 'part-at': 'part_at_lem', 'type-of': 'type_of_lem', 'sub_at': 'sub_at_lem',
+    'out-of-steps': 'out_of_steps', 'here-is': 'here_is', 'with-row': 'with_row_lem', 'part-at': 'part_at_lem', 'type-of': 'type_of_lem', 'sub_at': 'sub_at_lem',
     'yes?': 'is_yes', 'some?': 'is_some', 'yes?-of': 'is_yes_of', 'yes?-true': 'is_yes_true',
     'yes?-false': 'is_yes_false', 'no?-of': 'is_no_of',
 }

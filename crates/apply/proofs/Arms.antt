@@ -28,7 +28,7 @@ unfolding apply_in
 no_depth d l s a e = rw e
 
 -- No step is left.
-pub no_steps : (d l : ℕ) (s : Subst) (a : Ty) → (d ≡ 0 → ⊥) → l ≡ 0 → apply_in d s a l ≡ refused E.out-of-steps 0
+pub no_steps : (d l : ℕ) (s : Subst) (a : Ty) → (d ≡ 0 → ⊥) → l ≡ 0 → apply_in d s a l ≡ refused E.out_of_steps 0
 unfolding apply_in step
 no_steps zero l s a p q = absurd (p refl)
 no_steps (suc d) l s a p q = rw q

@@ -63,7 +63,7 @@ unfolding apply_core_in
 core_deep d l s c e = rw e
 
 -- No step is left.
-pub core_spent : (d l : ℕ) (s : Subst) (c : Core) → (d ≡ 0 → ⊥) → l ≡ 0 → apply_core_in d s c l ≡ refused E.out-of-steps 0
+pub core_spent : (d l : ℕ) (s : Subst) (c : Core) → (d ≡ 0 → ⊥) → l ≡ 0 → apply_core_in d s c l ≡ refused E.out_of_steps 0
 unfolding apply_core_in step
 core_spent zero l s c p q = absurd (p refl)
 core_spent (suc d) l s c p q = rw q

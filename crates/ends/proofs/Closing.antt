@@ -6,7 +6,7 @@ use native.Mathlib.Omega.{arith}
 use native.Mathlib.Numerals.{sub-one}
 use lib.ListN.{length}
 use Rattle.meaning.specs.Ast.{TyVar, Ty, var}
-use Rattle.meaning.specs.Errors.{out-of-steps}
+use Rattle.meaning.specs.Errors.{out_of_steps}
 use Rattle.meaning.specs.Budget.{Out, done, refused, after, step}
 use Rattle.meaning.specs.Subst.{Subst, look, apply_node, apply_in}
 use Rattle.names.specs.Names.{tyvar_of}
@@ -32,7 +32,7 @@ variable_is s x zero h = absurd (h refl)
 variable_is s x (suc l) h = simp sub-one
 
 -- Without one it is refused.
-variable_spent : (s : Subst) (x : TyVar) (l : ℕ) → l ≡ 0 → apply_in 256 s (var x) l ≡ refused out-of-steps 0
+variable_spent : (s : Subst) (x : TyVar) (l : ℕ) → l ≡ 0 → apply_in 256 s (var x) l ≡ refused out_of_steps 0
 unfolding apply_in step
 variable_spent s x l e = rw e
 

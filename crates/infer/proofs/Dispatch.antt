@@ -32,7 +32,7 @@ unfolding M.infer_in
 deep d ce x st n h = rw h
 
 -- Without a step.
-spent : (d : ℕ) (ce : ClassEnv) (x : Expr) (st : M.State) (n : ℕ) → (d ≡ 0 → ⊥) → n ≡ 0 → M.infer_in d ce x st n ≡ refused Er.out-of-steps 0
+spent : (d : ℕ) (ce : ClassEnv) (x : Expr) (st : M.State) (n : ℕ) → (d ≡ 0 → ⊥) → n ≡ 0 → M.infer_in d ce x st n ≡ refused Er.out_of_steps 0
 unfolding M.infer_in step
 spent zero ce x st n h z = absurd (h refl)
 spent (suc d) ce x st n h z = rw z

@@ -22,7 +22,7 @@ use Rattle.instances.specs.declared.Picked.TheVariants.{At, Nothing, Refused}
 
 -- A refusal is 6 or 7.
 abbrev pub SixOrSeven : E.Refusal → Type 0
-SixOrSeven r = (r ≡ E.out-of-steps) ⊎ (r ≡ E.too_deep)
+SixOrSeven r = (r ≡ E.out_of_steps) ⊎ (r ≡ E.too_deep)
 
 -- What the answer says of derivations.
 abbrev pub Finds : List ℕ → List ℕ → List InstanceInfo → Pred → ℕ → Picked → Type 0

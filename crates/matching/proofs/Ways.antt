@@ -6,7 +6,7 @@ use mathlib.Core.Path.{◌≡◌, refl, ap, sym, ◌∙◌}
 use mathlib.Core.List.{List}
 use lib.ListN.{set}
 use Rattle.meaning.specs.Ast.{Ty, arrow, pred}
-use Rattle.meaning.specs.Errors.{out-of-steps, too_deep}
+use Rattle.meaning.specs.Errors.{out_of_steps, too_deep}
 use Rattle.meaning.specs.Budget.{Out, refused, step}
 use Rattle.meaning.specs.Unify.{match_node, match_in, match_pred}
 use Rattle.names.specs.Names.{name_of, first_nullary}
@@ -38,7 +38,7 @@ unfolding match_in
 walk_deep d l a b e = rw e
 
 -- No step is left.
-walk_spent : (d l : ℕ) (a b : Ty) → (d ≡ 0 → ⊥) → l ≡ 0 → match_in d a b l ≡ refused out-of-steps 0
+walk_spent : (d l : ℕ) (a b : Ty) → (d ≡ 0 → ⊥) → l ≡ 0 → match_in d a b l ≡ refused out_of_steps 0
 unfolding match_in step
 walk_spent zero l a b p e = absurd (p refl)
 walk_spent (suc d) l a b p e = rw e

@@ -2,7 +2,7 @@
 use Rattle.std.specs.Prelude.{ℕ, suc, zero, ◌-◌}
 use Rattle.std.proofs.Math.Option.{Option, none, some}
 use Rattle.meaning.specs.Base.{if, ltb}
-use Rattle.meaning.specs.Errors.{Refusal, out-of-steps, added}
+use Rattle.meaning.specs.Errors.{Refusal, out_of_steps, added}
 
 -- An answer or a refusal, and the steps that are left.
 pub data Out (A : Type 0) : Type 0 where
@@ -33,7 +33,7 @@ refuse r = λ n. refused r n
 -- One step, then the rest; 6 where none is left. A walk writes `refuse too-deep` at depth 0 before it asks for the
 -- step, so DEPTH comes before STEPS.
 unfoldable pub step : {A : Type 0} → Steps A → Steps A
-step m zero = refused out-of-steps zero
+step m zero = refused out_of_steps zero
 step m (suc n) = m n
 
 -- How deep a walk may go: depth 256 passes, 257 gives 7.
@@ -42,7 +42,7 @@ depth = 256
 
 -- So many steps at once, outside of any walk; 6 spends the whole budget.
 unfoldable pub spend : ℕ → Steps (Unit {0})
-spend k n = if (ltb n k) (refused out-of-steps 0) (done tt (n - k))
+spend k n = if (ltb n k) (refused out_of_steps 0) (done tt (n - k))
 
 -- `.ok()`: an error of the Rust is `none`; a refusal that the port adds stays one.
 unfoldable pub settled : {A : Type 0} → Out A → Out (Option A)

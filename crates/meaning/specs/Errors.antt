@@ -6,7 +6,7 @@ use Rattle.meaning.specs.Ast.{Name, TyVar, Ty, Pred}
 -- The port's own refusals first, 1 to 3 with an offset into the file; then `InferenceError`, variant by variant.
 pub data Refusal : Type 0 where
   format limit reserved : ℕ → Refusal
-  redeclared room out-of-steps too_deep output : Refusal
+  redeclared room out_of_steps too_deep output : Refusal
   unbound_variable : Name → Refusal
   unification_failure : Ty → Ty → Refusal
   occurs_check : TyVar → Ty → Refusal
@@ -27,7 +27,7 @@ number (limit k) = 2
 number (reserved k) = 3
 number redeclared = 4
 number room = 5
-number out-of-steps = 6
+number out_of_steps = 6
 number too_deep = 7
 number output = 8
 number (unbound_variable x) = 11
@@ -61,7 +61,7 @@ values (limit k) = a_number k ∷ []
 values (reserved k) = a_number k ∷ []
 values redeclared = []
 values room = []
-values out-of-steps = []
+values out_of_steps = []
 values too_deep = []
 values output = []
 values (unbound_variable x) = a_name x ∷ []

@@ -4,7 +4,7 @@ use mathlib.Core.List.{List, [], ◌∷◌}
 use mathlib.Core.Bool.{true, false}
 use Rattle.meaning.specs.Base.{null}
 use Rattle.meaning.specs.Ast.{TyVar, Name, letter, called, Ty, var, con, nil, ◌◂◌, Pred, pred, Core, qual, Scheme, forall, ctx, super, cdict, dict_proj, dict_rec, dict_app, cnil, ◌◃◌}
-use Rattle.meaning.specs.Errors.{out-of-steps}
+use Rattle.meaning.specs.Errors.{out_of_steps}
 use Rattle.meaning.specs.Budget.{done, refused}
 use Rattle.meaning.specs.Subst.{singleton, ftv_type, ftv_preds, ftv_qual, ftv_scheme, apply_scheme}
 use Rattle.meaning.specs.Classes.{InstanceInfo, ClassEnv}
@@ -52,7 +52,7 @@ pub record Schemes : Type 0 where
   pub closed : null (ftv_scheme all) ≡ true
   pub free : apply_scheme (singleton b an_int) some 8 ≡ done (forall (a ∷ []) (qual (eq_at (var c) ∷ eq_at an_int ∷ []) (pair (var a) an_int))) 3
   pub bound : apply_scheme (singleton a an_int) some 8 ≡ done some 3
-  pub too_few : apply_scheme (singleton b an_int) some 4 ≡ refused out-of-steps 0
+  pub too_few : apply_scheme (singleton b an_int) some 4 ≡ refused out_of_steps 0
   pub no_step : apply_scheme (singleton b an_int) all 0 ≡ done all 0
 
 pub schemes : Schemes
@@ -92,7 +92,7 @@ at_list = dict_app (dict_rec (called "Eq") (list an_int) 1) (dict_rec (called "E
 pub record Reductions : Type 0 where
   pub with_given : reduce ce (context_givens (ord_at (var a)) (ord_at (var a) ∷ [])) rows 40
       ≡ done ((eq_at (list an_int), at_list) ∷ (eq_at (var a), dict_proj given (super (called "Ord") (called "Eq"))) ∷ (ord_at (var a), given) ∷ [], []) 23
-  pub too_few : reduce ce (context_givens (ord_at (var a)) (ord_at (var a) ∷ [])) rows 16 ≡ refused out-of-steps 0
+  pub too_few : reduce ce (context_givens (ord_at (var a)) (ord_at (var a) ∷ [])) rows 16 ≡ refused out_of_steps 0
   pub without : reduce ce [] rows 40 ≡ done ((eq_at (list an_int), at_list) ∷ [], eq_at (var a) ∷ ord_at (var a) ∷ []) 30
 
 pub reductions : Reductions

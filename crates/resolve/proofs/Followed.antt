@@ -46,7 +46,7 @@ no_depth zero n ce gs p e = refl
 no_depth (suc d) n ce gs p e = absurd (omega arith)
 
 -- No step is left.
-pub no_steps : (d n : ℕ) (ce : ClassEnv) (gs : List Given) (p : Pred) → (d ≡ 0 → ⊥) → n ≡ 0 → resolve_in d ce gs p n ≡ refused E.out-of-steps 0
+pub no_steps : (d n : ℕ) (ce : ClassEnv) (gs : List Given) (p : Pred) → (d ≡ 0 → ⊥) → n ≡ 0 → resolve_in d ce gs p n ≡ refused E.out_of_steps 0
 unfolding resolve_in step
 no_steps zero n ce gs p h e = absurd (h refl)
 no_steps (suc d) zero ce gs p h e = refl

@@ -9,7 +9,7 @@ use native.Mathlib.Numerals.{sub-one, add-one}
 use lib.ListN.{length}
 use Rattle.meaning.specs.Base.{if}
 use Rattle.meaning.specs.Ast.{super, Ty, Pred, pred, Core, dict_proj}
-use Rattle.meaning.specs.Errors.{out-of-steps, too_deep}
+use Rattle.meaning.specs.Errors.{out_of_steps, too_deep}
 use Rattle.meaning.specs.Budget.{Out, done, refused, Steps, after, step}
 use Rattle.meaning.specs.Classes.{ClassEnv, class_of, supers_of, or_next, by_supers, by_super_in}
 use Rattle.names.specs.Names.{name_of}
@@ -57,7 +57,7 @@ next ns cl W w sp d s = or_then (by_super_in (256 - d) W.env W.hit (entry ns W w
 unfoldable pub pending : List ℕ → List ℕ → Way → List ℕ → ℕ → Entered → ℕ → ℕ → Out (Option Core)
 pending ns cl W w sp Up d n = todo ns cl W w sp (d - 1) n
 pending ns cl W w sp Deep d n = refused too_deep n
-pending ns cl W w sp Spent d n = refused out-of-steps 0
+pending ns cl W w sp Spent d n = refused out_of_steps 0
 pending ns cl W w sp Hit d n = done (some (path_core ns w sp W.root d)) (n - 1)
 pending ns cl W w sp Miss d n = todo ns cl W w sp (d + 1) (n - 1)
 
@@ -109,7 +109,7 @@ module _ (ce : ClassEnv) (hit : Core → Pred → Bool) (k : ℕ) (e : Core) (p 
   in_deep z = rw z
 
   -- One with no step for it.
-  in_spent : 0 < k → n ≡ 0 → by_super_in k ce hit e p n ≡ refused out-of-steps 0
+  in_spent : 0 < k → n ≡ 0 → by_super_in k ce hit e p n ≡ refused out_of_steps 0
   unfolding by_super_in step
   in_spent h z = let y : k ≡ suc (k - 1) = omega arith in rw (z, y)
 

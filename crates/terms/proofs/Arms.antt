@@ -35,7 +35,7 @@ unfolding plain_in
 plain_deep d l s c e = rw e
 
 -- No step is left.
-plain_spent : (d l : ℕ) (s : Map DictName Core) (c : Core) → (d ≡ 0 → ⊥) → l ≡ 0 → plain_in d s c l ≡ refused E.out-of-steps 0
+plain_spent : (d l : ℕ) (s : Map DictName Core) (c : Core) → (d ≡ 0 → ⊥) → l ≡ 0 → plain_in d s c l ≡ refused E.out_of_steps 0
 unfolding plain_in step
 plain_spent zero l s c p q = absurd (p refl)
 plain_spent (suc d) l s c p q = rw q

@@ -4,7 +4,7 @@ use mathlib.Core.Bool.{Bool, true, false, true≢false, false≢true}
 use mathlib.Core.Option.{Option, none, some}
 use native.Mathlib.Decide.{dec_lt}
 use Rattle.meaning.specs.Base.{if, ltb}
-use Rattle.meaning.specs.Errors.{Refusal, format, limit, reserved, redeclared, room, out-of-steps, too_deep, output, unbound_variable, unification_failure, occurs_check, con_mismatch, arity_mismatch, no_instance, ambiguous, duplicate_instance, unknown_class, unknown_method, missing_superclass, missing_method, number, added}
+use Rattle.meaning.specs.Errors.{Refusal, format, limit, reserved, redeclared, room, out_of_steps, too_deep, output, unbound_variable, unification_failure, occurs_check, con_mismatch, arity_mismatch, no_instance, ambiguous, duplicate_instance, unknown_class, unknown_method, missing_superclass, missing_method, number, added}
 use Rattle.meaning.specs.Budget.{Out, done, refused, settled}
 use Rattle.theorems.proofs.Says.{Says, Definite, Limit}
 
@@ -16,7 +16,7 @@ definite_of (limit k) e = true≢false e
 definite_of (reserved k) e = true≢false e
 definite_of redeclared e = true≢false e
 definite_of room e = true≢false e
-definite_of out-of-steps e = true≢false e
+definite_of out_of_steps e = true≢false e
 definite_of too_deep e = true≢false e
 definite_of output e = true≢false e
 definite_of (unbound_variable x) e = tt
@@ -40,7 +40,7 @@ limit_of_lem (limit k) e = λ z. z
 limit_of_lem (reserved k) e = λ z. z
 limit_of_lem redeclared e = λ z. z
 limit_of_lem room e = λ z. z
-limit_of_lem out-of-steps e = λ z. z
+limit_of_lem out_of_steps e = λ z. z
 limit_of_lem too_deep e = λ z. z
 limit_of_lem output e = λ z. z
 limit_of_lem (unbound_variable x) e = λ z. false≢true e

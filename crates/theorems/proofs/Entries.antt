@@ -6,7 +6,7 @@ use mathlib.Core.List.{List, [], ◌∷◌, Memᴰ}
 use mathlib.Core.Option.{Option, none, some}
 use Prim.Native.Nat.{ℕ, suc, zero}
 use Rattle.meaning.specs.Ast.{Name, super, Pred, pred, Core, dict_proj}
-use Rattle.meaning.specs.Errors.{Refusal, out-of-steps, too_deep}
+use Rattle.meaning.specs.Errors.{Refusal, out_of_steps, too_deep}
 use Rattle.meaning.specs.Budget.{Steps, depth}
 use Rattle.meaning.specs.Classes.{ClassEnv, ClassInfo, Given, class_of, supers_of, or_next, by_supers, by_super_in, from_givens}
 use Rattle.meaning.specs.Derives.{Entry, itself, above}
@@ -82,7 +82,7 @@ module _ (ce : ClassEnv) (hit : Core → Pred → Bool) where
   givens_next g gs none w R others h n = weaken _ _ _ _ (others n) (h n) (givens_later g gs w) (λ r z. z)
   givens_next g gs (some f) w R others h n = (g, Memᴰ.head refl, w)
 
-module _ (R : Refusal → Type 0) (six : R out-of-steps) (seven : R too_deep) (ce : ClassEnv) (hit : Core → Pred → Bool) where
+module _ (R : Refusal → Type 0) (six : R out_of_steps) (seven : R too_deep) (ce : ClassEnv) (hit : Core → Pred → Bool) where
   supers_say : (walk : Core → Pred → Steps (Option Core)) → ((e : Core) (p : Pred) (n : ℕ) → Says (Walked ce hit e p) R (walk e p n))
       → (e : Core) (p : Pred) (ss : List Name) (n : ℕ) → Says (WalkedAbove ce hit e p ss) R (by_supers walk e p ss n)
   unfolding by_supers

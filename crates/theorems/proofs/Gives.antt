@@ -4,7 +4,7 @@ use Prim.Native.Nat.{ℕ, ◌+◌, ◌-◌, ◌≤◌}
 use mathlib.Core.Bool.{Bool, true, false}
 use native.Mathlib.Omega.{arith}
 use Rattle.meaning.specs.Base.{if, ltb}
-use Rattle.meaning.specs.Errors.{Refusal, out-of-steps}
+use Rattle.meaning.specs.Errors.{Refusal, out_of_steps}
 use Rattle.meaning.specs.Budget.{Out, done, refused, Steps, after, spend}
 use Rattle.meaning.specs.Infer.{State}
 use Rattle.theorems.proofs.Tests.{ltb_false}
@@ -55,6 +55,6 @@ pub spend_gives : (k n : ℕ) → Gives (λ _ left. left + k ≡ n) (spend k n)
 unfolding spend
 spend_gives k n = go (ltb n k) refl
   where
-    go : (b : Bool) → ltb n k ≡ b → Gives {A = Unit {0}} (λ _ left. left + k ≡ n) (if b (refused out-of-steps 0) (done tt (n - k)))
+    go : (b : Bool) → ltb n k ≡ b → Gives {A = Unit {0}} (λ _ left. left + k ≡ n) (if b (refused out_of_steps 0) (done tt (n - k)))
     go true e = gives_none
     go false e = let h = ltb_false n k e in gives tt (n - k) (omega arith)

@@ -31,7 +31,7 @@ At a b = b ≡ a
 
 -- Less may be asked of the types; the dictionaries on the way stay the same.
 pub weaker : {ce : ClassEnv} {P Q : Ty → Type 0} {c : Name} {v : Dict} → ((b : Ty) → P b → Q b) → Good ce P c v → Good ce Q c v
-weaker f (good {a = a} at class fills here-is methods w ps gs) = good at class fills (f a here-is) methods w ps (λ ci k s h. weaker f (gs ci k s h))
+weaker f (good {a = a} at class fills here_is methods w ps gs) = good at class fills (f a here_is) methods w ps (λ ci k s h. weaker f (gs ci k s h))
 
 -- What demand 3 asks: from a dictionary that is good at a type, every way up and then a method finds its field there.
 pub way_found : {ce : ClassEnv} {a : Ty} {c z : Name} {v : Dict} → Good ce (At a) c v → (p : Way ce c z)

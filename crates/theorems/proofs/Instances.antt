@@ -8,7 +8,7 @@ use Prim.Native.Nat.{ℕ, suc, zero, ◌+◌}
 use native.Mathlib.Omega.{arith}
 use Rattle.meaning.specs.Base.{is_yes, nth}
 use Rattle.meaning.specs.Ast.{same_name, TyVar, Pred}
-use Rattle.meaning.specs.Errors.{Refusal, out-of-steps, too_deep}
+use Rattle.meaning.specs.Errors.{Refusal, out_of_steps, too_deep}
 use Rattle.meaning.specs.Budget.{Steps, settled, depth}
 use Rattle.meaning.specs.Subst.{Subst, look, occurs}
 use Rattle.meaning.specs.Plain.{Fill, sub}
@@ -69,7 +69,7 @@ unfolding nth
 later k i insts p w none h = none_takes i insts p w h
 later k i insts p w (some c) h = record { offset = suc h.offset; number_is = one_on k c.index h.offset h.number_is; stands = h.stands; class_is = h.class_is; exact = h.exact }
 
-module _ (R : Refusal → Type 0) (six : R out-of-steps) (seven : R too_deep) where
+module _ (R : Refusal → Type 0) (six : R out_of_steps) (seven : R too_deep) where
   -- Of two predicates of one class the types are matched.
   pred_match_says : (h p : Pred) → h.class ≡ p.class → (n : ℕ)
       → Says (λ s. Exact h.ty p.ty s × Unit {0}) (λ r. NoMatch h.ty p.ty r × (Limit r → R r)) (match_pred h p n)

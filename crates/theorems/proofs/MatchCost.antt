@@ -7,7 +7,7 @@ use Prim.Native.Nat.{ℕ, suc, zero, ◌+◌, ◌≤◌}
 use native.Mathlib.Omega.{arith}
 use Rattle.meaning.specs.Base.{is_yes, if, eqb}
 use Rattle.meaning.specs.Ast.{same_name, Ty, Tys, var, con, arrow, nil, ◌◂◌, count_tys, same_ty, size, sizes}
-use Rattle.meaning.specs.Errors.{Refusal, out-of-steps, too_deep, unification_failure}
+use Rattle.meaning.specs.Errors.{Refusal, out_of_steps, too_deep, unification_failure}
 use Rattle.meaning.specs.Budget.{Out, done, refused, Steps, after, pure, refuse, step}
 use Rattle.meaning.specs.Map.{tyvars, get}
 use Rattle.meaning.specs.Subst.{Subst, agree_at, agree, merge}
@@ -44,12 +44,12 @@ record Spent (k n left : ℕ) : Type 0 where
 record Stopped (k n : ℕ) (r : Refusal) (left : ℕ) : Type 0 where
   most : n ≤ left + k
   down : left ≤ n
-  enough : k ≤ n → r ≡ out-of-steps → ⊥
+  enough : k ≤ n → r ≡ out_of_steps → ⊥
 
-unification_not_steps : (a b : Ty) → unification_failure a b ≡ out-of-steps → ⊥
+unification_not_steps : (a b : Ty) → unification_failure a b ≡ out_of_steps → ⊥
 unification_not_steps a b e = let z : ◌≡◌ {A = ℕ} 0 1 = cc in omega arith
 
-depth_not_steps : too_deep ≡ out-of-steps → ⊥
+depth_not_steps : too_deep ≡ out_of_steps → ⊥
 depth_not_steps e = let z : ◌≡◌ {A = ℕ} 0 1 = cc in omega arith
 
 -- Two types that do not fit: nothing is spent.
@@ -163,9 +163,9 @@ pub match_down : (d : ℕ) (p t : Ty) (n : ℕ) → Leaves (λ left. left ≤ n)
 match_down d p t n = leaves _ _ _ (match_in d p t n) (match_frugal d p t n) (λ left a. a.down) (λ r left a. a.down)
 
 -- A step for each node of the pattern is enough: it is not for want of steps that matching refuses then.
-pub match_enough : (d : ℕ) (p t : Ty) (n : ℕ) → size p ≤ n → Says (λ s. Unit {0}) (λ r. r ≡ out-of-steps → ⊥) (match_in d p t n)
+pub match_enough : (d : ℕ) (p t : Ty) (n : ℕ) → size p ≤ n → Says (λ s. Unit {0}) (λ r. r ≡ out_of_steps → ⊥) (match_in d p t n)
 match_enough d p t n h = go (match_in d p t n) (match_frugal d p t n)
   where
-    go : (o : Out Subst) → Ends (Spent (size p) n) (Stopped (size p) n) o → Says (λ s. Unit {0}) (λ r. r ≡ out-of-steps → ⊥) o
+    go : (o : Out Subst) → Ends (Spent (size p) n) (Stopped (size p) n) o → Says (λ s. Unit {0}) (λ r. r ≡ out_of_steps → ⊥) o
     go (done s left) a = tt
     go (refused r left) a = a.enough h

@@ -5,7 +5,7 @@ use mathlib.Core.List.{[], ◌∷◌}
 use mathlib.Core.Option.{Option, none, some}
 use Rattle.meaning.specs.Base.{is_yes, eqb}
 use Rattle.meaning.specs.Ast.{same_name, Ty, Tys, var, con, arrow, nil, ◌◂◌, same_ty, count_tys}
-use Rattle.meaning.specs.Errors.{Refusal, out-of-steps, too_deep, unification_failure}
+use Rattle.meaning.specs.Errors.{Refusal, out_of_steps, too_deep, unification_failure}
 use Rattle.meaning.specs.Budget.{Steps}
 use Rattle.meaning.specs.Map.{tyvars, get}
 use Rattle.meaning.specs.Subst.{Subst, empty, agree_at, agree, merge}
@@ -13,7 +13,7 @@ use Rattle.meaning.specs.Unify.{match_zip, match_node, match_in}
 use Rattle.theorems.proofs.Says.{and_then, step_says, if_says}
 use Rattle.theorems.proofs.UnifyRefuses.{Only}
 
-module _ (R : Refusal → Type 0) (six : R out-of-steps) (seven : R too_deep) (twelve : (a b : Ty) → R (unification_failure a b)) where
+module _ (R : Refusal → Type 0) (six : R out_of_steps) (seven : R too_deep) (twelve : (a b : Ty) → R (unification_failure a b)) where
   agree_at_refuses : (t : Ty) (o : Option Ty) (n : ℕ) → Only R (agree_at t o n)
   unfolding agree_at
   agree_at_refuses t none n = tt

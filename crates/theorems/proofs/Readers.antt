@@ -7,7 +7,7 @@ use mathlib.Core.Option.{Option, none, some}
 use Prim.Native.Nat.{ℕ, suc, zero, ◌+◌, ◌≤◌, ◌<◌}
 use native.Mathlib.Omega.{arith}
 use Rattle.meaning.specs.Base.{if, ltb, found, count, nth}
-use Rattle.meaning.specs.Errors.{Refusal, format, limit, reserved, redeclared, room, out-of-steps, too_deep, output, unbound_variable, unification_failure, occurs_check, con_mismatch, arity_mismatch, no_instance, ambiguous, duplicate_instance, unknown_class, unknown_method, missing_superclass, missing_method}
+use Rattle.meaning.specs.Errors.{Refusal, format, limit, reserved, redeclared, room, out_of_steps, too_deep, output, unbound_variable, unification_failure, occurs_check, con_mismatch, arity_mismatch, no_instance, ambiguous, duplicate_instance, unknown_class, unknown_method, missing_superclass, missing_method}
 use Rattle.meaning.specs.Reader.{Read, got, bad, Reader, onward, or_bad, item, unless, front, from, field, little, numeral, counted, one_of, tagged, items, section, list_of}
 use Rattle.theorems.proofs.Tests.{some_inj, none_some, ltb_false}
 use Rattle.theorems.proofs.Grown.{nth_below}
@@ -19,7 +19,7 @@ UpTo n (limit k) = k ≤ n
 UpTo n (reserved k) = k ≤ n
 UpTo n redeclared = ⊥
 UpTo n room = ⊥
-UpTo n out-of-steps = ⊥
+UpTo n out_of_steps = ⊥
 UpTo n too_deep = ⊥
 UpTo n output = ⊥
 UpTo n (unbound_variable x) = ⊥

@@ -7,7 +7,7 @@ use Prim.Native.Nat.{ℕ, suc, zero, ◌+◌}
 use native.Mathlib.Omega.{arith}
 use Rattle.meaning.specs.Base.{is_yes, nth}
 use Rattle.meaning.specs.Ast.{Ty, Pred, same_pred, Core, Cores, dict_rec}
-use Rattle.meaning.specs.Errors.{Refusal, format, limit, reserved, redeclared, room, out-of-steps, too_deep, output, unbound_variable, unification_failure, occurs_check, con_mismatch, arity_mismatch, no_instance, ambiguous, duplicate_instance, unknown_class, unknown_method, missing_superclass, missing_method}
+use Rattle.meaning.specs.Errors.{Refusal, format, limit, reserved, redeclared, room, out_of_steps, too_deep, output, unbound_variable, unification_failure, occurs_check, con_mismatch, arity_mismatch, no_instance, ambiguous, duplicate_instance, unknown_class, unknown_method, missing_superclass, missing_method}
 use Rattle.meaning.specs.Budget.{Steps, depth}
 use Rattle.meaning.specs.Subst.{look, apply_type, apply_preds}
 use Rattle.meaning.specs.Plain.{Fill, filled, sub_preds}
@@ -144,7 +144,7 @@ OnlyThese (limit k) = ⊥
 OnlyThese (reserved k) = ⊥
 OnlyThese redeclared = ⊥
 OnlyThese room = ⊥
-OnlyThese out-of-steps = Unit {0}
+OnlyThese out_of_steps = Unit {0}
 OnlyThese too_deep = Unit {0}
 OnlyThese output = ⊥
 OnlyThese (unbound_variable x) = ⊥

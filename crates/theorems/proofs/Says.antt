@@ -4,7 +4,7 @@ use mathlib.Core.Path.{◌≡◌, refl, subst}
 use mathlib.Core.Bool.{Bool, true, false}
 use Prim.Native.Nat.{ℕ, suc, zero}
 use Rattle.meaning.specs.Base.{if}
-use Rattle.meaning.specs.Errors.{Refusal, format, limit, reserved, redeclared, room, out-of-steps, too_deep, output, unbound_variable, unification_failure, occurs_check, con_mismatch, arity_mismatch, no_instance, ambiguous, duplicate_instance, unknown_class, unknown_method, missing_superclass, missing_method}
+use Rattle.meaning.specs.Errors.{Refusal, format, limit, reserved, redeclared, room, out_of_steps, too_deep, output, unbound_variable, unification_failure, occurs_check, con_mismatch, arity_mismatch, no_instance, ambiguous, duplicate_instance, unknown_class, unknown_method, missing_superclass, missing_method}
 use Rattle.meaning.specs.Budget.{Out, done, refused, Steps, after, step}
 
 -- P of the answer, or R of the refusal.
@@ -19,7 +19,7 @@ Definite (limit k) = ⊥
 Definite (reserved k) = ⊥
 Definite redeclared = ⊥
 Definite room = ⊥
-Definite out-of-steps = ⊥
+Definite out_of_steps = ⊥
 Definite too_deep = ⊥
 Definite output = ⊥
 Definite (unbound_variable x) = Unit {0}
@@ -55,7 +55,7 @@ pub and_then : {A B : Type 0} (P : A → Type 0) (R : Refusal → Type 0) (Q : B
 and_then P R Q o f h k = after_says P R Q R o f h (λ r x. x) k
 
 -- A step that may be missing.
-pub step_says : {A : Type 0} (P : A → Type 0) (R : Refusal → Type 0) (m : Steps A) → R out-of-steps → ((n : ℕ) → Says P R (m n)) → (n : ℕ) → Says P R (step m n)
+pub step_says : {A : Type 0} (P : A → Type 0) (R : Refusal → Type 0) (m : Steps A) → R out_of_steps → ((n : ℕ) → Says P R (m n)) → (n : ℕ) → Says P R (step m n)
 unfolding step
 step_says P R m h k zero = h
 step_says P R m h k (suc n) = k n

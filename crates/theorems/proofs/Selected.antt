@@ -76,11 +76,11 @@ reads_applied p i inst at t (and_more r rs) = applied_to at t (and_more r rs) re
 climb : {old ce : ClassEnv} {n : ℕ} (o : Older old ce n) (P : Ty → Type 0) {vs : Dicts} {θ : Fill} {e f : Core} {p q : Pred} → Entry old e p f q
     → (v : Dict) → Reads ce vs θ e v → Good ce P p.class v → (w : Dict) × Reads ce vs θ f w × Good ce P q.class w
 climb o P itself v r g = (v, r, g)
-climb o P (above {p = p} {s = s} {ci = ci} k h rest) v r (good {c = c} at class fills here-is methods w ps gs) =
+climb o P (above {p = p} {s = s} {ci = ci} k h rest) v r (good {c = c} at class fills here_is methods w ps gs) =
     climb o P rest (w ci (o.infos c ci k) s h) (a_field r (ps ci (o.infos c ci k) s h)) (gs ci (o.infos c ci k) s h)
 
 module _ (ce old : ClassEnv) (i : ℕ) (o : Older old ce i) (earlier : AllGood ce i) (P : Ty → Type 0)
-    (me : InstanceInfo) (θ : Fill) (here-is : P (sub θ me.head.ty)) (vs : Dicts) (ok : GoodArgs ce P me vs) where
+    (me : InstanceInfo) (θ : Fill) (here_is : P (sub θ me.head.ty)) (vs : Dicts) (ok : GoodArgs ce P me vs) where
   -- What is asked of a dictionary for p that a record of this instance stores.
   abbrev Stored : Pred → Dict → Type 0
   Stored p w = Good ce (λ b. p.ty ≡ me.head.ty → P b) p.class w
@@ -108,7 +108,7 @@ module _ (ce old : ClassEnv) (i : ℕ) (o : Older old ce i) (earlier : AllGood c
         dict p.class (sub θ p.ty) j (outward inst.head.ty θ η) all.0,
         reads_applied p j inst now.0 t all.1,
         earlier j now.1 inst now.0 p.class t.class_is (sub θ p.ty) (outward inst.head.ty θ η) (outward_fills inst.head.ty θ η p.ty t.head_is)
-            (λ b. p.ty ≡ me.head.ty → P b) (λ s. subst P (sym (ap (sub θ) s)) here-is) all.0 args,
+            (λ b. p.ty ≡ me.head.ty → P b) (λ s. subst P (sym (ap (sub θ) s)) here_is) all.0 args,
       )
     where
       args : GoodArgs ce (λ b. p.ty ≡ me.head.ty → P b) inst all.0
@@ -144,8 +144,8 @@ module _ (ce old : ClassEnv) (i : ℕ) (o : Older old ce i) (earlier : AllGood c
 record_good : (ce : ClassEnv) (i : ℕ) → AllGood ce i → (inst : InstanceInfo) → nth ce.instances i ≡ some inst → SoundAt ce i inst
     → (c : Name) → inst.head.class ≡ c → (a : Ty) (θ : Fill) → sub θ inst.head.ty ≡ a
     → (P : Ty → Type 0) → P a → (vs : Dicts) → GoodArgs ce P inst vs → Good ce P c (dict c a i θ vs)
-record_good ce i earlier inst at x c class a θ fills P here-is vs ok =
-    good at class fills here-is methods (λ ci k s h. (higher ci k s h).0)
+record_good ce i earlier inst at x c class a θ fills P here_is vs ok =
+    good at class fills here_is methods (λ ci k s h. (higher ci k s h).0)
     (λ ci k s h. picks at (field ci k s h) (higher ci k s h).1) (λ ci k s h. weaker (λ b f. f refl) (higher ci k s h).2)
   where
     is_info : (ci : ClassInfo) → class_of ce c ≡ some ci → x.info ≡ ci
@@ -160,7 +160,7 @@ record_good ce i earlier inst at x c class a θ fills P here-is vs ok =
 
     higher : (ci : ClassInfo) (k : class_of ce c ≡ some ci) (s : Name) (h : Memᴰ s ci.supers)
         → (w : Dict) × Reads ce vs θ (x.has_supers s (held ci k s h)).0.1 w × Good ce (λ b. inst.head.ty ≡ inst.head.ty → P b) s w
-    higher ci k s h = reads_good ce x.then_stood i x.older earlier P inst θ (subst P (sym fills) here-is) vs ok (x.has_supers s (held ci k s h)).2
+    higher ci k s h = reads_good ce x.then_stood i x.older earlier P inst θ (subst P (sym fills) here_is) vs ok (x.has_supers s (held ci k s h)).2
 
     field : (ci : ClassInfo) (k : class_of ce c ≡ some ci) (s : Name) (h : Memᴰ s ci.supers)
         → field_of inst.methods (super c s) ≡ some (x.has_supers s (held ci k s h)).0
@@ -168,9 +168,9 @@ record_good ce i earlier inst at x c class a θ fills P here-is vs ok =
 
 -- Superclass fields lead to earlier instances only: by induction on the number every record is good.
 pub all_records_good : (ce : ClassEnv) → Sound ce → (n : ℕ) → AllGood ce n
-all_records_good ce so zero j lt inst at c class a θ fills P here-is vs ok = let x : ⊥ = omega arith in absurd x
-all_records_good ce so (suc n) j lt inst at c class a θ fills P here-is vs ok =
-    record_good ce j (λ k l. all_records_good ce so n k (less k j n l lt)) inst at (so.at j inst at) c class a θ fills P here-is vs ok
+all_records_good ce so zero j lt inst at c class a θ fills P here_is vs ok = let x : ⊥ = omega arith in absurd x
+all_records_good ce so (suc n) j lt inst at c class a θ fills P here_is vs ok =
+    record_good ce j (λ k l. all_records_good ce so n k (less k j n l lt)) inst at (so.at j inst at) c class a θ fills P here_is vs ok
   where
     less : (k j n : ℕ) → k < j → j < suc n → k < n
     less k j n p q = omega arith

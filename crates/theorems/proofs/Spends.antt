@@ -4,7 +4,7 @@ use mathlib.Core.Option.{Option, none, some}
 use Prim.Native.Nat.{ℕ, suc, zero, ◌-◌, ◌≤◌}
 use native.Mathlib.Omega.{arith}
 use Rattle.meaning.specs.Base.{if, ltb}
-use Rattle.meaning.specs.Errors.{Refusal, out-of-steps, added}
+use Rattle.meaning.specs.Errors.{Refusal, out_of_steps, added}
 use Rattle.meaning.specs.Budget.{Out, done, refused, Steps, after, step, spend, settled, or_refuse}
 use Rattle.meaning.specs.Infer.{State, Run, ◌>>=◌, lift}
 use Rattle.theorems.proofs.MatchCost.{Leaves}
@@ -61,7 +61,7 @@ pub spend_falls : (k : ℕ) → Falls (spend k)
 unfolding spend
 spend_falls k = record { down = λ n. go n (ltb n k) }
   where
-    go : (n : ℕ) (b : Bool) → Leaves {A = Unit {0}} (λ left. left ≤ n) (if b (refused out-of-steps 0) (done tt (n - k)))
+    go : (n : ℕ) (b : Bool) → Leaves {A = Unit {0}} (λ left. left ≤ n) (if b (refused out_of_steps 0) (done tt (n - k)))
     go n true = omega arith
     go n false = omega arith
 

@@ -8,7 +8,7 @@ use Prim.Native.Nat.{ℕ, suc, zero, ◌+◌}
 use native.Mathlib.Nat.{suc-add}
 use Rattle.meaning.specs.Base.{is_yes, if, eqb}
 use Rattle.meaning.specs.Ast.{Name, same_name, TyVar, same_tyvar, Ty, Tys, var, con, arrow, nil, ◌◂◌, same_ty, count_tys}
-use Rattle.meaning.specs.Errors.{Refusal, out-of-steps}
+use Rattle.meaning.specs.Errors.{Refusal, out_of_steps}
 use Rattle.meaning.specs.Budget.{Out, done, refused, Steps, after, ◌>>=◌, pure, refuse, step, depth}
 use Rattle.meaning.specs.Map.{tyvars, get}
 use Rattle.meaning.specs.Subst.{Subst, empty, look, each, apply_node, apply_in, apply_type, apply_values, compose, agree_at, agree, merge, occurs}
@@ -17,7 +17,7 @@ use Rattle.theorems.proofs.Says.{Definite}
 
 -- A refusal that more steps do not lift.
 abbrev pub NotSteps : Refusal → Type 0
-NotSteps r = r ≢ out-of-steps
+NotSteps r = r ≢ out_of_steps
 
 -- The second outcome is the first with so many more steps left.
 abbrev pub More : {A : Type 0} → ℕ → Out A → Out A → Type 0

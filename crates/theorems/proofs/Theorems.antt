@@ -5,7 +5,7 @@ use mathlib.Core.List.{List}
 use mathlib.Core.Logic.{◌≢◌}
 use Prim.Native.Nat.{ℕ, ◌+◌, ◌≤◌}
 use Rattle.meaning.specs.Ast.{TyVar, Ty, size, Pred, Core, Binder, Decl, class_decl, instance_decl, let_decl, check_decl}
-use Rattle.meaning.specs.Errors.{Refusal, format, limit, reserved, redeclared, room, out-of-steps, too_deep, output, unbound_variable, unification_failure, occurs_check, con_mismatch, arity_mismatch, no_instance, ambiguous, duplicate_instance, unknown_class, unknown_method, missing_superclass, missing_method, number}
+use Rattle.meaning.specs.Errors.{Refusal, format, limit, reserved, redeclared, room, out_of_steps, too_deep, output, unbound_variable, unification_failure, occurs_check, con_mismatch, arity_mismatch, no_instance, ambiguous, duplicate_instance, unknown_class, unknown_method, missing_superclass, missing_method, number}
 use Rattle.meaning.specs.Budget.{done, refused, depth}
 use Rattle.meaning.specs.Map.{tyvars}
 use Rattle.meaning.specs.Subst.{Subst, look}
@@ -42,7 +42,7 @@ definite (limit k) o p q = o
 definite (reserved k) o p q = o
 definite redeclared o p q = o
 definite room o p q = o
-definite out-of-steps o p q = p (λ i. 6)
+definite out_of_steps o p q = p (λ i. 6)
 definite too_deep o p q = q (λ i. 7)
 definite output o p q = o
 definite (unbound_variable x) o p q = tt

@@ -4,7 +4,7 @@ use mathlib.Core.List.{List, [], ◌∷◌}
 use Prim.Native.Nat.{ℕ, suc, zero}
 use Rattle.meaning.specs.Base.{is_yes, eqb}
 use Rattle.meaning.specs.Ast.{Name, same_name, TyVar, same_tyvar, Ty, Tys, var, con, arrow, nil, ◌◂◌, count_tys, Pred}
-use Rattle.meaning.specs.Errors.{Refusal, format, limit, reserved, redeclared, room, out-of-steps, too_deep, output, unbound_variable, unification_failure, occurs_check, con_mismatch, arity_mismatch, no_instance, ambiguous, duplicate_instance, unknown_class, unknown_method, missing_superclass, missing_method}
+use Rattle.meaning.specs.Errors.{Refusal, format, limit, reserved, redeclared, room, out_of_steps, too_deep, output, unbound_variable, unification_failure, occurs_check, con_mismatch, arity_mismatch, no_instance, ambiguous, duplicate_instance, unknown_class, unknown_method, missing_superclass, missing_method}
 use Rattle.meaning.specs.Budget.{Out, Steps, after, depth}
 use Rattle.meaning.specs.Subst.{Subst, empty, each, apply_node, apply_in, apply_type, apply_pred, apply_preds, apply_values, compose, occurs}
 use Rattle.meaning.specs.Unify.{bind_other, bind, unify_zip, unify_con, unify_arrow, unify_node, unify_in}
@@ -18,7 +18,7 @@ Only R o = Says (λ a. Unit {0}) R o
 only_then : {A B : Type 0} (R : Refusal → Type 0) (o : Out A) (f : A → Steps B) → Only R o → ((a : A) (n : ℕ) → Only R (f a n)) → Only R (after o f)
 only_then R o f h k = and_then _ R _ o f h (λ a x n. k a n)
 
-module _ (R : Refusal → Type 0) (six : R out-of-steps) (seven : R too_deep) where
+module _ (R : Refusal → Type 0) (six : R out_of_steps) (seven : R too_deep) where
   each_refuses : (f : Ty → Steps Ty) → ((t : Ty) (n : ℕ) → Only R (f t n)) → (ts : Tys) (n : ℕ) → Only R (each f ts n)
   unfolding each
   each_refuses f h nil n = tt
@@ -73,7 +73,7 @@ OfUnify (limit k) = ⊥
 OfUnify (reserved k) = ⊥
 OfUnify redeclared = ⊥
 OfUnify room = ⊥
-OfUnify out-of-steps = Unit {0}
+OfUnify out_of_steps = Unit {0}
 OfUnify too_deep = Unit {0}
 OfUnify output = ⊥
 OfUnify (unbound_variable x) = ⊥

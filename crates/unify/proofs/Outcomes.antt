@@ -6,7 +6,7 @@ use mathlib.Core.Path.{◌≡◌, refl, ◌∙◌}
 use mathlib.Core.Bool.{true, false}
 use Rattle.meaning.specs.Base.{is_yes}
 use Rattle.meaning.specs.Ast.{Ty, Tys, nil, ◌◂◌}
-use Rattle.meaning.specs.Errors.{too_deep, out-of-steps}
+use Rattle.meaning.specs.Errors.{too_deep, out_of_steps}
 use Rattle.meaning.specs.Budget.{Out, done, refused, Steps, after, step}
 use Rattle.meaning.specs.Subst.{Subst, apply_in, compose}
 use Rattle.meaning.specs.Unify.{unify_zip, unify_arrow, unify_node, unify_in}
@@ -82,7 +82,7 @@ unfolding unify_in
 unify_deep d l a b e = rw e
 
 -- And so it does without a step.
-pub unify_spent : (d l : ℕ) (a b : Ty) → (d ≡ 0 → ⊥) → l ≡ 0 → unify_in d a b l ≡ refused out-of-steps 0
+pub unify_spent : (d l : ℕ) (a b : Ty) → (d ≡ 0 → ⊥) → l ≡ 0 → unify_in d a b l ≡ refused out_of_steps 0
 unfolding unify_in step
 unify_spent zero l a b p e = absurd (p refl)
 unify_spent (suc d) l a b p e = rw e
