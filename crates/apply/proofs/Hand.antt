@@ -1,7 +1,7 @@
 -- Laws of answers that may refuse, each for one way out of a function: these and `Refuses` go from call to caller.
 use mathlib.Core.Path.{◌≡◌, refl, ap, sym, ◌∙◌}
 use mathlib.Core.List.{List}
-use Prim.Native.Nat.{ℕ, ◌+◌, ◌*◌, ◌-◌, ◌≤◌}
+use Prim.Native.Nat.{ℕ, ◌+◌, ◌*◌, ◌≤◌}
 use native.Mathlib.Omega.{arith}
 use Rattle.meaning.specs.Budget.{Out, Steps, done, refused, after}
 use Rattle.names.specs.Names.{first_node}

@@ -1,4 +1,6 @@
 // Substitutions as pairs on the stack, applied to types: `apply_type` of 002, and the same with variables that stay.
+#![tactic(auto)]
+
 ghost use Rattle.std.specs.Prelude.{◌≡◌, ◌++◌, ℕ, ◌+◌, ◌*◌, ◌-◌, ◌<◌, ◌≤◌, length};
 ghost use Rattle.meaning.specs.Subst.{apply_in, each};
 ghost use Rattle.names.specs.Names.{Names};

@@ -1,4 +1,6 @@
 // Refusals: document 01's numbers, and the Rust's errors with their fields as words.
+#![tactic(auto)]
+
 ghost use Rattle.std.specs.Prelude.{◌≡◌};
 ghost use Rattle.errors.specs.Refusals.{Numbered};
 
