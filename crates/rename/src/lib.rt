@@ -1,4 +1,6 @@
 // Types whose variables become other variables: `apply_type` of a substitution that only renames, of which no pair is written.
+#![tactic(auto)]
+
 ghost use Rattle.std.specs.Prelude.{◌≡◌, ◌++◌, ◌+◌, ◌*◌, ◌<◌, ◌≤◌, length};
 ghost use Rattle.rename.specs.Renaming.{first_letter, or_word, pos_at, renamed_word};
 ghost use Rattle.rename.specs.Renamed.{Renaming, ReadyRename, TypeRenamed, ListRenamed};
