@@ -1,0 +1,7 @@
+-- The type is what changes.
+use Rattle.subst.proofs.PredWays.{pred_gives}
+use borrow.Author.Rules.{rules}
+use Rattle.subst.proofs.apply_pred_but.Goals as goal
+
+pub returns : goal.returns
+returns c = pred_gives _ c.requires.ready_but c.apply_but.ensures
