@@ -1,4 +1,6 @@
 // Substitutions of 002 beside types: made of nothing, and applied to predicates, qualified types and schemes.
+#![tactic(auto)]
+
 ghost use Rattle.std.specs.Prelude.{◌≡◌, ◌++◌, ◌+◌, ◌*◌, ◌-◌, ◌≤◌, length};
 ghost use Rattle.meaning.specs.Base.{null};
 ghost use Rattle.meaning.specs.Ast.{pred, qual};

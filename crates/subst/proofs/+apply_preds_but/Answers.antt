@@ -1,5 +1,4 @@
 -- Each way out by its law of `PredWays`. The measure is the list's word.
-use borrow.Author.Rules.{rules}
 use mathlib.Core.Path.{◌∙◌}
 use native.Mathlib.Omega.{arith}
 use Rattle.ast.proofs.Join.{both_fit}
@@ -8,14 +7,13 @@ use Rattle.pairs.proofs.Frames.{long}
 use Rattle.apply.proofs.Hand.{gives, stays}
 use Rattle.apply.proofs.Arms.{but_first}
 use Rattle.subst.proofs.PredWays.{no_preds, class_room, first_refused, rest_next, rest_refused, cell_room, cell_done}
-use Prim.Native.Nat.{ℕ, ◌<◌}
 use Rattle.subst.proofs.+apply_preds_but.Goals as goal
 
 pub cell_at-c-requires : goal.cell_at-c-requires
 cell_at-c-requires t c = node_room c.requires.ready_but.ty.node
 
 pub class_at-p-requires : goal.class_at-p-requires
-class_at-p-requires t c = class_room c.requires.ready_but.ty.node c.cell_at-c.ensures c.in-Cons.is
+class_at-p-requires t c = let z = class_room c.requires.ready_but.ty.node c.cell_at-c.ensures c.in-Cons.is in record { first_node_le_l = z.0; l_bound = z.1 }
 
 pub apply_pred_but-r-requires : goal.apply_pred_but-r-requires
 apply_pred_but-r-requires t c = let k = cons_head c.requires.ready_but.ty.node c.cell_at-c.ensures c.in-Cons.is in record { base_len_bound = c.requires.base_len_bound; ready_but = but_first c.requires.ready_but (omega arith) k.1 }

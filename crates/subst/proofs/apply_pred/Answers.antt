@@ -1,7 +1,6 @@
 -- The case of no variables that stay.
 use Rattle.apply.proofs.Buts.{ready_all}
 use Rattle.subst.proofs.Wholes.{whole_pred}
-use borrow.Author.Rules.{rules}
 use Rattle.subst.proofs.apply_pred.Goals as goal
 
 pub apply_pred_but-requires : goal.apply_pred_but-requires

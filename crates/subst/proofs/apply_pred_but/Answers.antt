@@ -1,6 +1,5 @@
 -- The type is what changes.
 use Rattle.subst.proofs.PredWays.{pred_gives}
-use borrow.Author.Rules.{rules}
 use Rattle.subst.proofs.apply_pred_but.Goals as goal
 
 pub returns : goal.returns

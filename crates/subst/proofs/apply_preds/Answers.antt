@@ -1,7 +1,6 @@
 -- The case of no variables that stay.
 use Rattle.apply.proofs.Buts.{ready_all}
 use Rattle.subst.proofs.Wholes.{whole_preds}
-use borrow.Author.Rules.{rules}
 use Rattle.subst.proofs.apply_preds.Goals as goal
 
 pub apply_preds_but-requires : goal.apply_preds_but-requires

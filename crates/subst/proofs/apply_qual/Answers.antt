@@ -1,6 +1,5 @@
 -- The case of no variables that stay.
 use Rattle.subst.proofs.Wholes.{ready_qual, whole_qual}
-use borrow.Author.Rules.{rules}
 use Rattle.subst.proofs.apply_qual.Goals as goal
 
 pub apply_qual_but-requires : goal.apply_qual_but-requires

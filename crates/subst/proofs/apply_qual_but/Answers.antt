@@ -2,7 +2,6 @@
 use native.Mathlib.Omega.{arith}
 use Rattle.pairs.proofs.Frames.{long}
 use Rattle.subst.proofs.QualWays.{preds_first, preds_refused, type_next, type_refused, both_done}
-use borrow.Author.Rules.{rules}
 use Rattle.subst.proofs.apply_qual_but.Goals as goal
 
 pub apply_preds_but-r-requires : goal.apply_preds_but-r-requires

@@ -1,6 +1,5 @@
 -- By the answer of `is_closed`.
 use Rattle.subst.proofs.SchemeWays.{scheme_stays, scheme_goes}
-use borrow.Author.Rules.{rules}
 use Rattle.subst.proofs.apply_scheme.Goals as goal
 
 pub is_closed-requires : goal.is_closed-requires

@@ -2,7 +2,6 @@
 use native.Mathlib.Omega.{arith}
 use Rattle.ast.proofs.Join.{joined}
 use Rattle.subst.specs.Preds.{class_at}
-use borrow.Author.Rules.{rules}
 use Rattle.subst.proofs.class_at.Goals as goal
 
 pub overflow_mul-i : goal.overflow_mul-i

@@ -4,7 +4,6 @@ use mathlib.Core.Path.{◌∙◌}
 use Rattle.ast.proofs.Join.{joined}
 use Rattle.pairs.proofs.Frames.{long}
 use Rattle.subst.specs.Preds.{pushed_pred}
-use borrow.Author.Rules.{rules}
 use Rattle.subst.proofs.push_pred.Goals as goal
 
 pub overflow_mul-top : goal.overflow_mul-top

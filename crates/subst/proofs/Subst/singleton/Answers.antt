@@ -4,7 +4,6 @@ use mathlib.Core.List.{◌++◌}
 use Rattle.pairs.proofs.Frames.{long}
 use Rattle.pairs.proofs.OnePair.{one_put}
 use Rattle.subst.proofs.Start.{made_single}
-use borrow.Author.Rules.{rules}
 use Rattle.subst.proofs.Subst.singleton.Goals as goal
 
 pub put-requires-2 : goal.put-requires-2
