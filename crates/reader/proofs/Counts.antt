@@ -1,5 +1,5 @@
 -- Counts and numbers of things, from the field of two bytes that holds them.
-use mathlib.Core.Path.{◌≡◌, refl, sym, ap, ◌∙◌, subst}
+use mathlib.Core.Path.{◌≡◌, refl, sym, ◌∙◌}
 use mathlib.Core.Bool.{Bool, true, false}
 use mathlib.Core.List.{List, [], ◌∷◌}
 use mathlib.Core.Option.{Option, none, some}
@@ -7,18 +7,17 @@ use Prim.Native.Nat.{ℕ, zero, suc, ◌+◌, ◌<◌, ◌≤◌}
 use native.Mathlib.Omega.{arith}
 use native.Mathlib.Decide.{dec_lt}
 use lib.ListN.{length}
-use Rattle.meaning.specs.Base.{if, ltb, count, nth}
+use Rattle.meaning.specs.Base.{ltb, count, nth}
 use Rattle.meaning.specs.Errors.{format, limit}
 use Rattle.meaning.specs.Reader.{Read, got, bad, onward, or_bad, item, unless, from, numeral, counted, one_of}
 use Rattle.theorems.proofs.Tests.{ltb_of, ltb_true}
 use Rattle.theorems.proofs.Readers.{one_of_refused}
 use Rattle.errors.specs.declared.Refusal.TheVariants.{Format, Limit}
-use Rattle.reader.specs.declared.Field.{Field}
 use Rattle.reader.specs.declared.Field.TheVariants.{Is, Cut}
 use Rattle.reader.specs.declared.Count.TheVariants.{Is as Count-Is, Bad as Count-Bad}
 use Rattle.reader.specs.declared.Picked.TheVariants.{At, Nothing}
 use Rattle.reader.proofs.Fields.{numeral_is, numeral_cut}
-use Rattle.reader.specs.Verdicts.{FieldAs, IsField, IsCount, Picks, Passes}
+use Rattle.reader.specs.Verdicts.{IsField, IsCount, Picks}
 
 -- ## an item's test
 pub item_got : {A B : Type 0} (refusal : ℕ → _) (r : ℕ → List ℕ → Read A) (test : A → Option B) (at : ℕ) (bs : List ℕ) (a : A) (b : B) (next : ℕ) (rest : List ℕ)

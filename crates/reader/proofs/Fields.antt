@@ -1,16 +1,15 @@
 -- A field of k bytes at a place: what it holds, or that the end of the file cuts it.
-use mathlib.Core.Path.{◌≡◌, refl, sym, ap, ◌∙◌, subst}
+use mathlib.Core.Path.{◌≡◌, refl, ap, ◌∙◌, subst}
 use mathlib.Core.List.{List, [], ◌∷◌}
-use mathlib.Core.Option.{Option, none, some}
+use mathlib.Core.Option.{none, some}
 use Prim.Native.Nat.{ℕ, zero, suc, ◌+◌, ◌*◌, ◌<◌, ◌≤◌}
 use native.Mathlib.Omega.{arith}
 use lib.ListN.{length, get_or}
 use Rattle.meaning.specs.Base.{found, count}
 use Rattle.meaning.specs.Errors.{format}
-use Rattle.meaning.specs.Reader.{Read, got, bad, onward, or_bad, front, from, field, little, numeral}
+use Rattle.meaning.specs.Reader.{got, bad, onward, or_bad, front, from, field, little, numeral}
 use Rattle.theorems.proofs.Readers.{from_from}
 use Rattle.reader.specs.Bytes.{text}
-use Rattle.reader.specs.declared.Field.{Field}
 use Rattle.reader.specs.declared.Field.TheVariants.{Is, Cut}
 use Rattle.reader.specs.Verdicts.{IsField}
 

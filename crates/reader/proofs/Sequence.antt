@@ -1,10 +1,8 @@
 -- Verdicts on readers one after the other: the first bad item decides, and its refusal is handed on.
 use mathlib.Core.Path.{◌≡◌, refl, sym, ap, ◌∙◌, subst}
-use mathlib.Core.List.{List, []}
-use Prim.Native.Nat.{ℕ, ◌≤◌}
-use lib.ListN.{length}
+use mathlib.Core.List.{List}
+use Prim.Native.Nat.{ℕ}
 use Rattle.meaning.specs.Reader.{Read, got, bad, Reader, onward, from, pair}
-use Rattle.errors.specs.Refusals.{refusal_of}
 use Rattle.reader.specs.declared.Place.{Place}
 use Rattle.reader.specs.declared.Place.TheVariants.{Next, Bad}
 use Rattle.reader.specs.Verdicts.{Passes, Verdict}

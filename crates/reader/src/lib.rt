@@ -1,4 +1,6 @@
 // Fields of a session file, by the place where each begins. Past the end of the file every field is cut.
+#![tactic(auto)]
+
 ghost use Rattle.std.specs.Prelude.{◌≡◌, ℕ, ◌+◌, ◌*◌, ◌<◌, ◌≤◌, length, get_or};
 ghost use Rattle.reader.specs.Verdicts.{IsField, IsCount, Picks};
 
