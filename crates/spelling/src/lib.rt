@@ -1,4 +1,6 @@
 // A name's text in a file: its letters, its bytes as words, and the forms that RESERVED keeps for names that are made.
+#![tactic(auto)]
+
 ghost use Rattle.std.specs.Prelude.{◌≡◌, true, [], ◌∷◌, ◌+◌, ◌<◌, ◌≤◌, length};
 ghost use Rattle.meaning.specs.Text.{packed, quoted};
 ghost use Rattle.meaning.specs.Ast.{name};

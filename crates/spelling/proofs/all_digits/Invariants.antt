@@ -1,8 +1,6 @@
 -- `spelling::all_digits` meets its contract. The loop's invariant: the bytes before i are digits. Assumes nothing.
-use native.Mathlib.Omega.{arith}
-use borrow.Author.Rules.{rules}
 use Rattle.meaning.specs.Reserved.{digit}
-use Rattle.spelling.proofs.Loops.{Passed, none_passed, one_passed, one_fails, all_passed, no_digits, some_digits}
+use Rattle.spelling.proofs.Loops.{Passed}
 use Rattle.spelling.proofs.all_digits.Given as goal
 
 abbrev pub invariant-loop-left : goal.invariant-loop-left

@@ -1,6 +1,6 @@
 -- `spelling::begins` meets its contract. The loop's invariant: the bytes before i are those of the beginning. Assumes nothing.
 use native.Mathlib.Omega.{arith}
-use Rattle.spelling.proofs.Prefixes.{Matched, none_matched, one_matched, one_differs, all_matched, short_text}
+use Rattle.spelling.proofs.Prefixes.{none_matched, one_matched, one_differs, all_matched, short_text}
 use Rattle.spelling.proofs.begins.Goals as goal
 
 pub returns-then-len-m : goal.returns-then-len-m

@@ -1,6 +1,5 @@
 -- `spelling::begins` meets its contract. The loop's invariant: the bytes before i are those of the beginning. Assumes nothing.
-use native.Mathlib.Omega.{arith}
-use Rattle.spelling.proofs.Prefixes.{Matched, none_matched, one_matched, one_differs, all_matched, short_text}
+use Rattle.spelling.proofs.Prefixes.{Matched}
 use Rattle.spelling.proofs.begins.Given as goal
 
 abbrev pub invariant-loop-k : goal.invariant-loop-k

@@ -1,7 +1,6 @@
 -- `spelling::form_of` meets its contract. Assumes nothing.
 use native.Mathlib.Omega.{arith}
 use Rattle.spelling.proofs.Made.{is_variable, is_word, is_free, name_text}
-use borrow.Author.Rules.{rules}
 use Rattle.spelling.proofs.form_of.Goals as goal
 
 pub returns-then-numbered : goal.returns-then-numbered

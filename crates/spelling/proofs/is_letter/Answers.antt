@@ -1,7 +1,6 @@
 -- `spelling::is_letter` meets its contract. Assumes nothing.
 use native.Mathlib.Omega.{arith}
 use Rattle.spelling.proofs.Alphabet.{low_letter, capital, underscore, between_letters, past_letters, small_letter}
-use borrow.Author.Rules.{rules}
 use Rattle.spelling.proofs.is_letter.Goals as goal
 
 pub returns-then-b-lt65 : goal.returns-then-b-lt65

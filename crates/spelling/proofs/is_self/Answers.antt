@@ -1,6 +1,5 @@
 -- `spelling::is_self` meets its contract. Assumes nothing.
 use Rattle.spelling.proofs.Made.{is_self, not_self}
-use borrow.Author.Rules.{rules}
 use Rattle.spelling.proofs.is_self.Goals as goal
 
 pub returns-then-len-ne4 : goal.returns-then-len-ne4

@@ -2,7 +2,7 @@
 use mathlib.Core.Path.{refl}
 use native.Mathlib.Omega.{arith}
 use Rattle.names.specs.Keys.{bytes_of, four}
-use Rattle.spelling.proofs.Loops.{Packing, none_packed, one_packed, all_packed}
+use Rattle.spelling.proofs.Loops.{none_packed, one_packed, all_packed}
 use Rattle.spelling.proofs.key_of.Goals as goal
 
 pub loop-n-init : goal.loop-n-init

@@ -1,8 +1,5 @@
 -- `spelling::key_of` meets its contract. The loop's invariant: the bytes from the n-th on are packed. Assumes nothing.
-use mathlib.Core.Path.{refl}
-use native.Mathlib.Omega.{arith}
-use Rattle.names.specs.Keys.{bytes_of, four}
-use Rattle.spelling.proofs.Loops.{Packing, none_packed, one_packed, all_packed}
+use Rattle.spelling.proofs.Loops.{Packing}
 use Rattle.spelling.proofs.key_of.Given as goal
 
 abbrev pub invariant-loop-n : goal.invariant-loop-n

@@ -1,8 +1,6 @@
 -- `spelling::letters` meets its contract. The loop's invariant: the bytes before i are letters. Assumes nothing.
-use native.Mathlib.Omega.{arith}
-use borrow.Author.Rules.{rules}
 use Rattle.meaning.specs.Reserved.{letter_of_name}
-use Rattle.spelling.proofs.Loops.{Passed, none_passed, one_passed, one_fails, all_passed}
+use Rattle.spelling.proofs.Loops.{Passed}
 use Rattle.spelling.proofs.letters.Given as goal
 
 abbrev pub invariant-loop-k : goal.invariant-loop-k

@@ -1,6 +1,5 @@
 -- `spelling::like_word` meets its contract. Assumes nothing.
 use Rattle.spelling.proofs.Made.{by_self, by_number, by_context, by_super}
-use borrow.Author.Rules.{rules}
 use Rattle.spelling.proofs.like_word.Goals as goal
 
 pub returns-then-is_self : goal.returns-then-is_self

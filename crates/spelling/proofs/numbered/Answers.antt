@@ -1,7 +1,6 @@
 -- `spelling::numbered` meets its contract. Assumes nothing.
 use native.Mathlib.Omega.{arith}
 use Rattle.spelling.proofs.Prefixes.{other_letter, that_letter}
-use borrow.Author.Rules.{rules}
 use Rattle.spelling.proofs.numbered.Goals as goal
 
 pub returns-then-b-letter : goal.returns-then-b-letter
