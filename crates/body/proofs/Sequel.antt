@@ -1,14 +1,13 @@
 -- One section after another: each hands its refusal on, or what it has read and where.
 use mathlib.Core.Path.{◌≡◌, refl, sym, ap, ◌∙◌, subst}
-use mathlib.Core.List.{List, [], ◌∷◌}
+use mathlib.Core.List.{List, []}
 use Prim.Native.Nat.{ℕ, ◌+◌, ◌<◌, ◌≤◌}
 use native.Mathlib.Omega.{arith}
 use lib.ListN.{length, get_or}
 use Rattle.meaning.specs.Base.{count}
 use Rattle.meaning.specs.Errors.{format}
 use Rattle.meaning.specs.Reader.{Read, got, bad, Reader, onward, from, section, end_of_file}
-use Rattle.meaning.specs.File.{File, type_node, expr_node, decl_entry}
-use Rattle.errors.specs.Refusals.{refusal_of}
+use Rattle.meaning.specs.File.{type_node, expr_node, decl_entry}
 use Rattle.errors.specs.declared.Refusal.{Refusal}
 use Rattle.errors.specs.declared.Refusal.TheVariants.{Format}
 use Rattle.reader.proofs.Fields.{get_d_from, past_end}
@@ -23,7 +22,7 @@ use Rattle.sections.proofs.Places.{placed_kept}
 use Rattle.sections.proofs.Going.{known_on}
 use Rattle.body.specs.declared.Reading.{Reading}
 use Rattle.body.specs.declared.Reading.TheVariants.{Good, Bad}
-use Rattle.body.specs.Tails.{with_types, with_exprs, after_exprs, after_types, after_names, Declarations, Expressions, Types, DeclsAs, ExprsAs, TypesAs, GivesTail}
+use Rattle.body.specs.Tails.{with_types, with_exprs, after_exprs, after_types, after_names, DeclsAs, ExprsAs, TypesAs, GivesTail}
 
 -- A reader goes on after what was read.
 pub goes_on : {A B : Type 0} (o : Read A) (f : A → Reader B) (a : A) (p : ℕ) (bs : List ℕ) → o ≡ got a p bs → onward o f ≡ f a p bs

@@ -2,7 +2,7 @@
 use Rattle.std.specs.Prelude.{◌≡◌, List, [], ℕ, ◌+◌, ◌<◌, ◌≤◌, length, get_or}
 use Rattle.meaning.specs.Base.{count}
 use Rattle.meaning.specs.Ast.{Ty, Expr, Decl}
-use Rattle.meaning.specs.Reader.{got, bad, Reader, onward, ◌>>=◌, pure, from, section, end_of_file}
+use Rattle.meaning.specs.Reader.{got, bad, Reader, ◌>>=◌, pure, from, section, end_of_file}
 use Rattle.meaning.specs.File.{File, type_node, expr_node, decl_entry}
 use Rattle.errors.specs.Refusals.{refusal_of}
 use Rattle.nodes.specs.declared.Counts.{Counts}

@@ -1,4 +1,6 @@
 // A session file after its names: types, expressions, declarations, and no byte after them.
+#![tactic(auto)]
+
 ghost use Rattle.std.specs.Prelude.{◌≡◌, ℕ, ◌≤◌, length};
 ghost use Rattle.body.specs.Tails.{DeclsAs, ExprsAs, TypesAs, GivesTail};
 

@@ -1,6 +1,6 @@
 -- What unification and matching ask of the words and give: a substitution as pairs below where the stack ended.
-use Rattle.std.specs.Prelude.{◌≡◌, List, [], ◌∷◌, ℕ, ◌+◌, ◌*◌, ◌-◌, ◌<◌, ◌≤◌, length}
-use Rattle.meaning.specs.Budget.{Out, done, refused}
+use Rattle.std.specs.Prelude.{◌≡◌, List, ℕ, ◌+◌, ◌*◌, ◌-◌, ◌≤◌, length}
+use Rattle.meaning.specs.Budget.{Out, done}
 use Rattle.meaning.specs.Map.{tyvars}
 use Rattle.meaning.specs.Subst.{Subst}
 use Rattle.theorems.proofs.Ordered.{Sorted}

@@ -1,6 +1,6 @@
 -- Two substitutions side by side on the stack become one: `compose` and `merge` of 002, in place.
-use Rattle.std.specs.Prelude.{◌≡◌, Bool, true, false, ℕ, zero, suc, ◌+◌, ◌*◌, ◌-◌, ◌<◌, ◌≤◌, length, get_or}
-use mathlib.Core.List.{List, [], ◌∷◌, ◌++◌, foldr}
+use Rattle.std.specs.Prelude.{◌≡◌, ℕ, ◌+◌, ◌*◌, ◌-◌, ◌<◌, ◌≤◌, get_or}
+use mathlib.Core.List.{List, ◌∷◌, ◌++◌, foldr}
 use Rattle.std.proofs.Math.Option.{Option, none, some}
 use Rattle.meaning.specs.Ast.{TyVar, Ty}
 use Rattle.meaning.specs.Budget.{Out, done, refused}
@@ -9,9 +9,9 @@ use Rattle.meaning.specs.Errors.{unification_failure}
 use Rattle.meaning.specs.Subst.{Subst, agree}
 use Rattle.theorems.proofs.Ordered.{Sorted}
 use Rattle.names.specs.Names.{Names, tyvar_of}
-use Rattle.ast.specs.Table.{tree, Table, Kept, Node}
+use Rattle.ast.specs.Table.{tree, Table, Node}
 use Rattle.errors.specs.Refusals.{Refuses}
-use Rattle.pairs.specs.Pairs.{sub_at, Below, Sub, Stands}
+use Rattle.pairs.specs.Pairs.{sub_at, Sub, Stands}
 use Rattle.compose.specs.declared.Agreed.{Agreed}
 use Rattle.compose.specs.declared.Agreed.TheVariants.{All, Clash}
 use Rattle.apply.specs.declared.Applied.{Applied}

@@ -1,4 +1,6 @@
 // Two substitutions side by side on the stack become one, in place: `compose` and `merge` of 002.
+#![tactic(auto)]
+
 ghost use Rattle.std.specs.Prelude.{◌≡◌, ◌++◌, ℕ, ◌+◌, ◌*◌, ◌-◌, ◌<◌, ◌≤◌, length};
 ghost use Rattle.meaning.specs.Subst.{apply_values, compose, merge};
 ghost use Rattle.names.specs.Names.{Names};

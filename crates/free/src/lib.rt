@@ -1,4 +1,6 @@
 // Free variables of 002, collected into lists of the table of nodes: each once, the last one found in front.
+#![tactic(auto)]
+
 ghost use Rattle.std.specs.Prelude.{List, [], ◌++◌, ◌*◌, ◌≤◌, length};
 ghost use Rattle.meaning.specs.Ast.{qual};
 ghost use Rattle.meaning.specs.Subst.{ftv_type, ftv_preds, ftv_qual, ftv_scheme};

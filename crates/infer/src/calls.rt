@@ -37,8 +37,8 @@ pub fn app(
 ) -> Inferred
     requires base_len_bound { length base.now ≤ 4 * top }
     requires ready_i { ReadyI 8 1 1 names.now (base.now ++ work.old) env.old order.now insts.now binders.old top left sp tv dv }
-    ensures* { λ r. ⌜ GivesI (AskedTwo src.now names.now index.now (base.now ++ work.old) classes.now methods.now insts.now env.old order.now top f x) (λ p. inferred_then (infer_in depth p.0 p.1) (λ r. app_arg (λ u. infer_in depth p.0 u) (tyvar_of names.now (first_fresh + tv)) r p.2) (state_of names.now (base.now ++ work.old) env.old order.now (tv + 1) dv) left) 8 1 1 names.now (base.now ++ work.old) (base.now ++ work.new)
-        env.new order.now binders.old binders.new top left sp tv dv r ⌝ }
+    ensures { GivesI (AskedTwo src.now names.now index.now (base.now ++ work.old) classes.now methods.now insts.now env.old order.now top f x) (λ p. inferred_then (infer_in depth p.0 p.1) (λ r. app_arg (λ u. infer_in depth p.0 u) (tyvar_of names.now (first_fresh + tv)) r p.2) (state_of names.now (base.now ++ work.old) env.old order.now (tv + 1) dv) left) 8 1 1 names.now (base.now ++ work.old) (base.now ++ work.new)
+        env.new order.now binders.old binders.new top left sp tv dv result }
 {
     let a = names::FRESH + tv;
     let q = crate::infer(

@@ -1,4 +1,6 @@
 // Accepted instances of 001: looking one up by its head, and the test whether a new head overlaps an older one.
+#![tactic(auto)]
+
 ghost use Rattle.std.specs.Prelude.{◌≡◌, ◌++◌, ◌*◌, ◌<◌, ◌≤◌, length, get_or};
 ghost use Rattle.std.proofs.Math.Option.{none};
 ghost use Rattle.meaning.specs.Ast.{pred};

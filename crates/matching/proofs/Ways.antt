@@ -5,9 +5,9 @@ use native.Mathlib.Numerals.{sub-one}
 use mathlib.Core.Path.{◌≡◌, refl, ap, sym, ◌∙◌}
 use mathlib.Core.List.{List}
 use lib.ListN.{set}
-use Rattle.meaning.specs.Ast.{Ty, arrow, pred}
+use Rattle.meaning.specs.Ast.{Ty, pred}
 use Rattle.meaning.specs.Errors.{out_of_steps, too_deep}
-use Rattle.meaning.specs.Budget.{Out, refused, step}
+use Rattle.meaning.specs.Budget.{refused, step}
 use Rattle.meaning.specs.Unify.{match_node, match_in, match_pred}
 use Rattle.names.specs.Names.{name_of, first_nullary}
 use Rattle.names.proofs.Distinct.{name_of_same}

@@ -1,11 +1,10 @@
 -- The parts of matching that the code has as functions of their own.
 use Rattle.std.specs.Prelude.{◌≡◌, List, ℕ, ◌+◌, ◌<◌}
 use Rattle.meaning.specs.Ast.{Ty}
-use Rattle.meaning.specs.Budget.{Out, done, refused, Steps, after, ◌>>=◌, pure}
+use Rattle.meaning.specs.Budget.{Steps, ◌>>=◌}
 use Rattle.meaning.specs.Subst.{Subst, merge}
 use Rattle.names.specs.Names.{first_nullary, first_node}
 use Rattle.ast.specs.Table.{shape_of}
-use Rattle.ast.specs.declared.Shape.{Shape}
 use Rattle.ast.specs.declared.Shape.TheVariants.{Con}
 
 -- One pair of types, merged into s: what `match_ty` does at each argument, and at an arrow's right sides.

@@ -1,12 +1,10 @@
 -- Where the names stand that were read so far.
 use mathlib.Core.Path.{◌≡◌, refl, sym, ap, ◌∙◌, subst}
-use mathlib.Core.Bool.{Bool, true, false}
-use mathlib.Core.List.{List, [], ◌∷◌}
+use mathlib.Core.List.{List, ◌∷◌}
 use Prim.Native.Nat.{ℕ, zero, suc, ◌+◌, ◌<◌, ◌≤◌}
 use native.Mathlib.Decide.{ℕ_discrete, dec_lt}
 use native.Mathlib.Omega.{arith}
 use lib.ListN.{get_or}
-use Rattle.meaning.specs.Base.{if, ltb}
 use Rattle.meaning.specs.Ast.{Name, name}
 use Rattle.meaning.specs.Reader.{got, from}
 use Rattle.meaning.specs.File.{name_entry}

@@ -1,10 +1,9 @@
 -- One name of a file: where its text stands, and how it is taken into the table.
 use Rattle.std.specs.Prelude.{◌≡◌, true, List, [], ℕ, ◌+◌, ◌^◌, ◌<◌, ◌≤◌, length, get_or, set}
-use Rattle.meaning.specs.Base.{eqb}
 use Rattle.meaning.specs.Text.{packed}
 use Rattle.meaning.specs.Ast.{Name, name}
 use Rattle.meaning.specs.Errors.{format}
-use Rattle.meaning.specs.Reserved.{letter_of_name, all, made_variable, made_name}
+use Rattle.meaning.specs.Reserved.{letter_of_name, all}
 use Rattle.meaning.specs.Reader.{got, bad, or_bad, unless, from}
 use Rattle.meaning.specs.File.{name_entry}
 use Rattle.errors.specs.Refusals.{refusal_of}

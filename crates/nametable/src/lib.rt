@@ -1,4 +1,6 @@
 // The names section of a session file: read into a table of names, the built-in names first, and into the file's index.
+#![tactic(auto)]
+
 ghost use Rattle.std.specs.Prelude.{◌≡◌, ◌+◌, ◌*◌, ◌<◌, ◌≤◌, length, set};
 ghost use Rattle.nametable.specs.Entries.{Spotted, Coded, Entered, Taken};
 ghost use Rattle.nametable.specs.Tables.{ReadAll, Bound, AllBound, NamesRead};

@@ -1,18 +1,14 @@
 -- Nodes and declarations of several parts: read part by part, they are what the definition reads.
-use mathlib.Core.Path.{◌≡◌, refl, sym, ap, ◌∙◌, subst}
-use mathlib.Core.List.{List, [], ◌∷◌}
-use Prim.Native.Nat.{ℕ, ◌+◌}
-use Rattle.meaning.specs.Ast.{Name, named, Ty, Pred, Expr, Decl, class_decl, instance_decl}
-use Rattle.meaning.specs.Reader.{Read, got, bad, Reader, onward, from, one_of, pair, list_of}
-use Rattle.meaning.specs.File.{variable, word, con_node, let_node, pred_entry, class_entry, instance_entry, tys_of}
+use mathlib.Core.List.{List}
+use Prim.Native.Nat.{ℕ}
+use Rattle.meaning.specs.Reader.{from, one_of, pair, list_of}
+use Rattle.meaning.specs.File.{variable, word, con_node, let_node, pred_entry, class_entry, instance_entry}
 use Rattle.errors.specs.declared.Refusal.{Refusal}
 use Rattle.reader.specs.declared.Place.{Place}
 use Rattle.reader.specs.declared.Place.TheVariants.{Next, Bad}
-use Rattle.reader.specs.Verdicts.{Verdict}
 use Rattle.reader.proofs.Sequence.{goes, stops, paired, three_paired, four_paired}
 use Rattle.nodes.specs.Known.{Before, Gives}
 use Rattle.nodes.specs.Rows.{class_body, instance_body}
-use Rattle.nodes.proofs.Numbers.{pair_on, pair_bad}
 use Rattle.nodes.proofs.Tags.{put_two}
 
 -- The first part refuses.

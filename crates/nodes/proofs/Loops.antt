@@ -4,19 +4,16 @@ use mathlib.Core.List.{List, [], ◌∷◌, ◌++◌}
 use Prim.Native.Nat.{ℕ, zero, suc, ◌+◌, ◌-◌, ◌<◌, ◌≤◌}
 use native.Mathlib.Omega.{arith}
 use lib.ListN.{length}
-use Rattle.meaning.specs.Reader.{Read, got, bad, Reader, onward, from, items, one_of, pair, list_of, section, counted}
-use Rattle.meaning.specs.File.{word, pred_entry}
+use Rattle.meaning.specs.Reader.{Reader, onward, from, items, list_of, section, counted}
 use Rattle.reader.specs.declared.Place.{Place}
 use Rattle.reader.specs.declared.Place.TheVariants.{Next, Bad}
 use Rattle.reader.specs.declared.Count.TheVariants.{Is, Bad as Count-Bad}
-use Rattle.reader.specs.Verdicts.{Passes, Verdict, IsCount}
+use Rattle.reader.specs.Verdicts.{Passes, IsCount}
 use Rattle.reader.proofs.Sequence.{goes_with, stops}
 use Rattle.nodes.specs.declared.Counts.{Counts}
 use Rattle.nodes.specs.declared.Row.{Row}
-use Rattle.nodes.specs.declared.Row.TheVariants.{Super, Argument, Signature, Method, Context}
-use Rattle.nodes.specs.Known.{Before, Sized, Known, Gives}
-use Rattle.nodes.specs.Rows.{RowOf, row_reader}
-use Rattle.nodes.proofs.Numbers.{sized, pred_pair}
+use Rattle.nodes.specs.Known.{Before, Known, Gives}
+use Rattle.nodes.specs.Rows.{row_reader}
 
 -- One item and then the others.
 pub items_more : {A : Type 0} (r : List A → Reader A) (k : ℕ) (xs : List A) (p : ℕ) (bs : List ℕ) → 0 < k

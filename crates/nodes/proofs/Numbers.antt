@@ -1,15 +1,14 @@
 -- Numbers of things and of names: what the code finds is the definition's verdict.
-use mathlib.Core.Path.{◌≡◌, refl, sym, ap, ◌∙◌, subst}
-use mathlib.Core.Bool.{Bool, true, false}
-use mathlib.Core.List.{List, []}
-use mathlib.Core.Option.{some}
-use Prim.Native.Nat.{ℕ, ◌+◌, ◌≤◌}
+use mathlib.Core.Path.{◌≡◌, refl, sym, ap, ◌∙◌}
+use mathlib.Core.Bool.{Bool, false}
+use mathlib.Core.List.{List}
+use Prim.Native.Nat.{ℕ, ◌+◌}
 use lib.ListN.{get_or}
-use Rattle.meaning.specs.Base.{eqb, count, nth}
+use Rattle.meaning.specs.Base.{eqb, count}
 use Rattle.meaning.specs.Ast.{Name}
-use Rattle.meaning.specs.Errors.{Refusal, reserved}
+use Rattle.meaning.specs.Errors.{reserved}
 use Rattle.meaning.specs.Reserved.{made_variable, made_name}
-use Rattle.meaning.specs.Reader.{Read, got, bad, Reader, onward, from, item, unless, one_of, pair}
+use Rattle.meaning.specs.Reader.{Reader, from, item, unless, one_of, pair}
 use Rattle.meaning.specs.File.{variable, word, pred_entry}
 use Rattle.theorems.proofs.Tests.{eqb_of, is_no_of}
 use Rattle.errors.specs.declared.Refusal.TheVariants.{Format, Reserved}
@@ -17,7 +16,7 @@ use Rattle.spelling.specs.Forms.{FormWord}
 use Rattle.reader.specs.declared.Place.{Place}
 use Rattle.reader.specs.declared.Place.TheVariants.{Next, Bad}
 use Rattle.reader.specs.declared.Picked.TheVariants.{At, Nothing}
-use Rattle.reader.specs.Verdicts.{Picks, Passes, Verdict}
+use Rattle.reader.specs.Verdicts.{Picks}
 use Rattle.reader.proofs.Counts.{picked, none_picked, item_got, item_fails, item_bad, passed, failed}
 use Rattle.reader.proofs.Sequence.{goes, stops, ends, paired}
 use Rattle.nodes.specs.declared.Counts.{Counts}
@@ -25,8 +24,8 @@ use Rattle.nodes.specs.declared.Section.{Section}
 use Rattle.nodes.specs.declared.Section.TheVariants.{Names, Types, Exprs}
 use Rattle.nodes.specs.declared.Use.{Use}
 use Rattle.nodes.specs.declared.Use.TheVariants.{Variable, Word}
-use Rattle.nodes.specs.Known.{Before, Sized, Forms, Known, Gives}
-use Rattle.nodes.specs.Rows.{Thing, things, many_of, name_for, reserved_form}
+use Rattle.nodes.specs.Known.{Before, Sized, Known, Gives}
+use Rattle.nodes.specs.Rows.{things, many_of, name_for, reserved_form}
 use native.Mathlib.Decide.{ℕ_discrete}
 
 -- The things of a section are as many as the code counts.

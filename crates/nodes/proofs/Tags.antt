@@ -1,23 +1,21 @@
 -- What follows a tag byte, and the nodes that have one.
-use mathlib.Core.Path.{◌≡◌, refl, sym, ap, ◌∙◌, subst}
+use mathlib.Core.Path.{◌≡◌, refl}
 use mathlib.Core.Bool.{true, false}
 use mathlib.Core.List.{List, [], ◌∷◌}
-use mathlib.Core.Option.{Option, none, some}
+use mathlib.Core.Option.{none, some}
 use Prim.Native.Nat.{ℕ, zero, suc, ◌+◌, ◌<◌, ◌≤◌}
 use native.Mathlib.Omega.{arith}
-use lib.ListN.{length}
 use Rattle.meaning.specs.Base.{count, nth}
-use Rattle.meaning.specs.Ast.{Expr, Decl}
 use Rattle.meaning.specs.Errors.{format}
-use Rattle.meaning.specs.Reader.{Read, got, bad, Reader, onward, from, item, numeral, tagged, one_of, pair, list_of}
+use Rattle.meaning.specs.Reader.{got, Reader, onward, from, item, numeral, tagged, one_of, pair}
 use Rattle.meaning.specs.File.{variable, word, var_node, con_node, arrow_node, type_node, evar_node, int_node, bool_node, abs_node, app_node, let_node, expr_node, class_entry, instance_entry, let_entry, check_entry, decl_entry}
 use Rattle.errors.specs.declared.Refusal.TheVariants.{Format}
 use Rattle.reader.specs.declared.Place.{Place}
 use Rattle.reader.specs.declared.Place.TheVariants.{Next, Bad}
 use Rattle.reader.specs.declared.Field.TheVariants.{Is, Cut}
-use Rattle.reader.specs.Verdicts.{IsField, Passes, Verdict}
+use Rattle.reader.specs.Verdicts.{IsField}
 use Rattle.reader.proofs.Counts.{item_got, item_fails, item_bad}
-use Rattle.reader.proofs.Sequence.{goes_with, goes, stops, ends, paired}
+use Rattle.reader.proofs.Sequence.{goes_with, stops, ends, paired}
 use Rattle.nodes.specs.Known.{Before, Any, Gives}
 
 nth_past : {A : Type 0} (xs : List A) (n : ℕ) → count xs ≤ n → nth xs n ≡ none

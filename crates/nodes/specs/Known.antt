@@ -1,5 +1,5 @@
 -- What stands in a file before a place, what the code knows of it, and what it says of what it reads there.
-use Rattle.std.specs.Prelude.{◌≡◌, List, ℕ, ◌+◌, ◌≤◌, get_or}
+use Rattle.std.specs.Prelude.{◌≡◌, List, ℕ, ◌+◌, get_or}
 use Rattle.std.proofs.Math.Option.{some}
 use Rattle.meaning.specs.Base.{count, nth}
 use Rattle.meaning.specs.Ast.{Name, Ty, Expr}

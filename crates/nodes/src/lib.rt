@@ -1,4 +1,6 @@
 // The nodes and declarations of a session file: each is read from the place where it begins, to the place after it.
+#![tactic(auto)]
+
 pub mod decls;
 
 ghost use Rattle.std.specs.Prelude.{◌≡◌, [], ℕ, ◌+◌, ◌<◌, ◌≤◌, length};

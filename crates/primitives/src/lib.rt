@@ -1,4 +1,6 @@
 // The seven primitives of 000 and their types stand in a table, from which a fresh environment is filled.
+#![tactic(auto)]
+
 ghost use Rattle.std.specs.Prelude.{◌++◌, ◌+◌, ◌*◌, ◌<◌, ◌≤◌, length};
 ghost use Rattle.ast.specs.Table.{Node};
 ghost use Rattle.primitives.specs.Prims.{Row, TypeMade, ReadyOne, GivesOne, ReadyPrims, GivesPrims};

@@ -1,4 +1,6 @@
 // The environment of 000 as rows of a lent slice, a row for each name; a second slice has the names in byte order.
+#![tactic(auto)]
+
 ghost use Rattle.std.specs.Prelude.{◌≡◌, [], ◌++◌, ◌+◌, ◌*◌, ◌≤◌, length};
 ghost use Rattle.meaning.specs.Map.{tyvars, elem};
 ghost use Rattle.meaning.specs.Subst.{ftv_preds, ftv_scheme};

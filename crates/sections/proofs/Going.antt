@@ -1,28 +1,28 @@
 -- The loop over a section's items, and the section as a whole.
 use mathlib.Core.Path.{◌≡◌, refl, sym, ap, ◌∙◌, subst}
 use mathlib.Core.List.{List, [], ◌∷◌, ◌++◌}
-use Prim.Native.Nat.{ℕ, zero, suc, ◌+◌, ◌-◌, ◌<◌, ◌≤◌}
+use Prim.Native.Nat.{ℕ, ◌+◌, ◌-◌, ◌<◌, ◌≤◌}
 use native.Mathlib.Omega.{arith}
 use lib.ListN.{length, get_or, set, length-set}
 use lib.Seq.{get_or-set_same, get_or-set_other}
-use Rattle.meaning.specs.Base.{count, nth}
-use Rattle.meaning.specs.Reader.{Read, got, bad, Reader, onward, from, items, counted, section}
+use Rattle.meaning.specs.Base.{count}
+use Rattle.meaning.specs.Reader.{onward, from, items, counted, section}
 use Rattle.meaning.specs.File.{type_node, expr_node, decl_entry}
 use Rattle.theorems.proofs.Grown.{nth_below}
 use Rattle.errors.specs.declared.Refusal.{Refusal}
 use Rattle.reader.specs.declared.Place.{Place}
 use Rattle.reader.specs.declared.Place.TheVariants.{Next, Bad}
 use Rattle.reader.specs.declared.Count.TheVariants.{Is, Bad as Count-Bad}
-use Rattle.reader.specs.Verdicts.{Verdict, IsCount}
+use Rattle.reader.specs.Verdicts.{IsCount}
 use Rattle.reader.proofs.Sequence.{stops}
 use Rattle.nodes.specs.declared.Counts.{Counts}
-use Rattle.nodes.specs.Known.{Before, Sized, Forms, Known, Gives}
+use Rattle.nodes.specs.Known.{Before, Known, Gives}
 use Rattle.nodes.proofs.Loops.{items_more, items_past}
 use Rattle.sections.specs.declared.Part.{Part}
 use Rattle.sections.specs.declared.Part.TheVariants.{Types, Exprs, Decls}
 use Rattle.sections.specs.declared.Many.TheVariants.{Read as Many-Read, Bad as Many-Bad}
 use Rattle.reader.specs.Placing.{Placed}
-use Rattle.sections.specs.Parts.{PartOf, part_reader, base_of, limit_of, NodeGives, ItemsAs, GivesItems, SectionAs, GivesSection}
+use Rattle.sections.specs.Parts.{PartOf, part_reader, base_of, limit_of, NodeGives, GivesItems, GivesSection}
 use Rattle.sections.proofs.Places.{count_snoc, placed_none, placed_more}
 
 -- ## one item, by the section that it is of

@@ -3,16 +3,15 @@ use mathlib.Core.Path.{◌≡◌, refl, sym, ap, ◌∙◌, subst}
 use mathlib.Core.List.{List, [], ◌∷◌, ◌++◌}
 use mathlib.Core.Option.{some}
 use mathlib.Core.Logic.{◌⊎◌, inl, inr}
-use mathlib.Core.Bool.{Bool, true, false}
+use mathlib.Core.Bool.{Bool}
 use Prim.Native.Nat.{ℕ, zero, suc, ◌+◌, ◌<◌, ◌≤◌}
 use native.Mathlib.Omega.{arith}
 use native.Mathlib.Decide.{ℕ_discrete}
-use lib.ListN.{length, get_or, set}
-use Rattle.meaning.specs.Base.{is_yes, if, eqb, count, nth}
-use Rattle.meaning.specs.Reader.{Read, got, Reader, from}
+use lib.ListN.{get_or}
+use Rattle.meaning.specs.Base.{if, eqb, count, nth}
+use Rattle.meaning.specs.Reader.{got, Reader, from}
 use Rattle.theorems.proofs.Tests.{is_yes_of, is_no_of}
 use Rattle.theorems.proofs.Grown.{nth_below, nth_last}
-use Rattle.reader.specs.Verdicts.{Passes}
 use Rattle.reader.specs.Placing.{upto, Placed}
 
 pub count_snoc : {A : Type 0} (xs : List A) (x : A) → count (xs ++ x ∷ []) ≡ suc (count xs)

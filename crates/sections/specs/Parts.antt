@@ -1,9 +1,8 @@
 -- The sections of a file after its names, and where their items stand.
-use Rattle.std.specs.Prelude.{◌≡◌, List, [], ◌∷◌, ℕ, zero, suc, ◌+◌, ◌<◌, ◌≤◌, length, get_or}
-use Rattle.std.proofs.Math.Option.{some}
-use Rattle.meaning.specs.Base.{count, nth}
+use Rattle.std.specs.Prelude.{◌≡◌, List, [], ℕ, ◌+◌, ◌<◌, ◌≤◌, length, get_or}
+use Rattle.meaning.specs.Base.{count}
 use Rattle.meaning.specs.Ast.{Ty, Expr, Decl}
-use Rattle.meaning.specs.Reader.{Read, got, bad, Reader, from, items, section}
+use Rattle.meaning.specs.Reader.{got, bad, Reader, from, items, section}
 use Rattle.meaning.specs.File.{type_node, expr_node, decl_entry}
 use Rattle.errors.specs.Refusals.{refusal_of}
 use Rattle.reader.specs.declared.Place.{Place}

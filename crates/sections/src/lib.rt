@@ -1,4 +1,6 @@
 // The sections of a session file after its names: each item is read, and its place written into the index.
+#![tactic(auto)]
+
 ghost use Rattle.std.specs.Prelude.{◌≡◌, ℕ, ◌+◌, ◌<◌, ◌≤◌, length, set};
 ghost use Rattle.sections.specs.Parts.{limit_of, base_of, NodeGives, GivesItems, GivesSection};
 

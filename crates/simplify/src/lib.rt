@@ -1,4 +1,6 @@
 // `simplify_context` of 001 over binders in rows: a binder that the others prove by their superclasses is replaced in place.
+#![tactic(auto)]
+
 ghost use Rattle.std.specs.Prelude.{◌≡◌, ◌++◌, ◌*◌, ◌<◌, ◌≤◌, length, set};
 ghost use Rattle.simplify.specs.Simplified.{ReadySimplify, Turn, GivesSimplified};
 

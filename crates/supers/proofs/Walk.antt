@@ -14,7 +14,7 @@ use Rattle.supers.specs.declared.path.Entered.TheVariants.{Up, Deep, Spent, Hit,
 use Rattle.supers.specs.ClassTable.{Supers}
 use Rattle.supers.specs.Frames.{taken, EntersAs, Enters, Took, TurnsAs, Turns}
 use Rattle.supers.proofs.FrameLaws.{framed_stands, framed-length, took_stands, took_length}
-use Rattle.supers.proofs.Rest.{Way, todo, next, pending, goes_up, goes_down, enters}
+use Rattle.supers.proofs.Rest.{Way, todo, pending, goes_up, goes_down, enters}
 
 -- A walk over a class table, in which the projections of the class goal are taken if the types are the same.
 pub record Fine (ns cl : List ℕ) (goal : ℕ) (same : Bool) (W : Way) : Type 0 where

@@ -1,4 +1,6 @@
 // The search of 001 over givens and their superclass entries: `by_super` as a walk, up to the first entry that is the goal.
+#![tactic(auto)]
+
 mod path;
 pub mod rows;
 

@@ -1,4 +1,6 @@
 // `subst_core` of 000 over words: dictionary names in a core term are replaced by what rows have for them.
+#![tactic(auto)]
+
 mod lists;
 mod rows;
 

@@ -1,6 +1,5 @@
 -- What the code's unification means: an answer is a most general unifier, in order; a refusal that is neither 6 nor 7 says
 -- that there is none.
-use mathlib.Core.Path.{◌≡◌}
 use mathlib.Core.List.{List}
 use mathlib.Core.Logic.{◌≢◌}
 use Prim.Native.Nat.{ℕ, ◌*◌, ◌-◌}

@@ -1,4 +1,6 @@
 // Unification of 002 over words. The substitution is pairs that end where the stack ended.
+#![tactic(auto)]
+
 mod variable;
 
 ghost use Rattle.std.specs.Prelude.{◌≡◌, ◌++◌, ℕ, ◌+◌, ◌*◌, ◌-◌, ◌<◌, ◌≤◌, length};

@@ -7,7 +7,7 @@ use lib.ListN.{get_or}
 use Rattle.meaning.specs.Base.{count, nth}
 use Rattle.meaning.specs.Ast.{Name, named, Ty, Pred, pred}
 use Rattle.meaning.specs.Reader.{got, Reader, onward, from, one_of, list_of, pair}
-use Rattle.meaning.specs.File.{variable, word, class_entry, pred_entry, instance_entry, let_entry, check_entry, decl_entry}
+use Rattle.meaning.specs.File.{word, class_entry, pred_entry, instance_entry, let_entry, check_entry, decl_entry}
 use Rattle.theorems.proofs.Grown.{nth_below}
 use Rattle.reader.specs.declared.Field.TheVariants.{Is, Cut}
 use Rattle.reader.specs.Verdicts.{IsField}

@@ -11,7 +11,7 @@ use Rattle.meaning.specs.Base.{eqb, count, nth}
 use Rattle.meaning.specs.Errors.{format}
 use Rattle.meaning.specs.Ast.{eint, ebool}
 use Rattle.meaning.specs.Reader.{item, numeral}
-use Rattle.meaning.specs.File.{word, evar_node, int_node, bool_node, abs_node, app_node, let_node, expr_node}
+use Rattle.meaning.specs.File.{evar_node, int_node, bool_node, abs_node, app_node, let_node, expr_node}
 use Rattle.theorems.proofs.Tests.{some_inj, none_some, eqb_of, is_no_of}
 use Rattle.theorems.proofs.Grown.{nth_below}
 use Rattle.reader.specs.declared.Field.TheVariants.{Is, Cut}

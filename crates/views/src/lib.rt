@@ -1,5 +1,7 @@
 // Nodes of an accepted session file, by number: each is read at its place in the index. Whatever the file and the index
 // hold, reading ends: past the end of the index a place is 0, and past the end of the file a field is 0.
+#![tactic(auto)]
+
 ghost use Rattle.std.specs.Prelude.{◌≡◌, ℕ, ◌+◌, ◌≤◌, length, get_or};
 ghost use Rattle.meaning.specs.Base.{eqb};
 ghost use Rattle.meaning.specs.File.{class_entry, instance_entry, decl_entry};

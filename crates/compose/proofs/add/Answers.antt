@@ -1,6 +1,5 @@
 -- `compose::add` meets its contract: the pair is written if its variable was not found. Assumes nothing.
 use native.Mathlib.Omega.{arith}
-use borrow.Author.Rules.{rules}
 use Rattle.compose.proofs.Joined.{added_old, added_new}
 use Rattle.compose.proofs.add.Goals as goal
 

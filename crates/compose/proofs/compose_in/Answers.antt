@@ -1,6 +1,5 @@
 -- `compose::compose_in` meets its contract: the first region is applied to the types of the other, and then both become
 use native.Mathlib.Omega.{arith}
-use borrow.Author.Rules.{rules}
 use Rattle.pairs.proofs.Frames.{long}
 use Rattle.compose.proofs.Values.{composed, composed_fails}
 use Rattle.compose.proofs.compose_in.Goals as goal

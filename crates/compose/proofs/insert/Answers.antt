@@ -1,6 +1,5 @@
 -- `compose::insert` meets its contract: the pairs before the place move down, and the pair is written there. Assumes nothing.
 use native.Mathlib.Omega.{arith}
-use borrow.Author.Rules.{rules}
 use Rattle.ast.proofs.Join.{joined}
 use Rattle.pairs.proofs.Frames.{long}
 use Rattle.compose.proofs.Moved.{opened}

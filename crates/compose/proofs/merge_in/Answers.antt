@@ -1,10 +1,9 @@
 -- `compose::merge_in` meets its contract. The loop's invariant: the first j pairs are left to be added. j is the measure,
-use mathlib.Core.List.{◌++◌}
 use native.Mathlib.Omega.{arith}
 use Rattle.ast.proofs.Join.{joined}
 use Rattle.pairs.proofs.Frames.{long}
 use Rattle.compose.proofs.Pieces.{same_short}
-use Rattle.compose.proofs.Joined.{Merging, merging, merging_on, merged}
+use Rattle.compose.proofs.Joined.{merging, merging_on, merged}
 use Rattle.compose.proofs.merge_in.Goals as goal
 
 pub overflow_mul-hi : goal.overflow_mul-hi

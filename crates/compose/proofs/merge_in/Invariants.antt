@@ -1,10 +1,6 @@
 -- `compose::merge_in` meets its contract. The loop's invariant: the first j pairs are left to be added. j is the measure,
 use mathlib.Core.List.{◌++◌}
-use native.Mathlib.Omega.{arith}
-use Rattle.ast.proofs.Join.{joined}
-use Rattle.pairs.proofs.Frames.{long}
-use Rattle.compose.proofs.Pieces.{same_short}
-use Rattle.compose.proofs.Joined.{Merging, merging, merging_on, merged}
+use Rattle.compose.proofs.Joined.{Merging}
 use Rattle.compose.proofs.merge_in.Given as goal
 
 abbrev pub invariant-loop-j : goal.invariant-loop-j

@@ -1,5 +1,4 @@
 -- `compose::merge_pairs` meets its contract: where the regions agree they become one. Assumes nothing.
-use borrow.Author.Rules.{rules}
 use Rattle.compose.proofs.Agreeing.{pairs_merged, pairs_clash}
 use Rattle.compose.proofs.merge_pairs.Goals as goal
 

@@ -1,10 +1,7 @@
 -- `compose::place` meets its contract. The loop's invariant: the pair goes somewhere after the first j pairs. The measure is
-use Prim.Native.Nat.{◌-◌}
-use mathlib.Core.List.{◌++◌}
 use native.Mathlib.Omega.{arith}
-use borrow.Author.Rules.{rules}
 use Rattle.ast.proofs.Join.{joined}
-use Rattle.compose.proofs.Placed.{Placing, placing, placing_on, placed_here, placed_last}
+use Rattle.compose.proofs.Placed.{placing, placing_on, placed_here, placed_last}
 use Rattle.compose.proofs.place.Goals as goal
 
 pub loop-j-init : goal.loop-j-init

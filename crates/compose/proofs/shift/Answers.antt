@@ -1,10 +1,8 @@
 -- `compose::shift` meets its contract. The loop's invariant: the words before i have been moved. The measure is how many
-use Prim.Native.Nat.{◌-◌}
-use mathlib.Core.List.{◌++◌}
 use native.Mathlib.Omega.{arith}
 use Rattle.ast.proofs.Join.{joined}
 use Rattle.compose.proofs.Pieces.{same_short}
-use Rattle.compose.proofs.Placed.{Shifting, shifting, shifting_on, shifted}
+use Rattle.compose.proofs.Placed.{shifting, shifting_on, shifted}
 use Rattle.compose.proofs.shift.Goals as goal
 
 pub loop-i-init : goal.loop-i-init

@@ -1,10 +1,7 @@
 -- `compose::shift` meets its contract. The loop's invariant: the words before i have been moved. The measure is how many
 use Prim.Native.Nat.{◌-◌}
 use mathlib.Core.List.{◌++◌}
-use native.Mathlib.Omega.{arith}
-use Rattle.ast.proofs.Join.{joined}
-use Rattle.compose.proofs.Pieces.{same_short}
-use Rattle.compose.proofs.Placed.{Shifting, shifting, shifting_on, shifted}
+use Rattle.compose.proofs.Placed.{Shifting}
 use Rattle.compose.proofs.shift.Given as goal
 
 abbrev pub invariant-loop-i : goal.invariant-loop-i

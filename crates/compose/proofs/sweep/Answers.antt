@@ -1,12 +1,9 @@
 -- `compose::sweep` meets its contract. The loop's invariant: the first i types have been replaced. The measure is how many
-use Prim.Native.Nat.{◌-◌}
-use mathlib.Core.List.{◌++◌}
 use native.Mathlib.Omega.{arith}
-use borrow.Author.Rules.{rules}
 use Rattle.ast.proofs.Join.{joined}
 use Rattle.pairs.proofs.Frames.{long}
 use Rattle.compose.proofs.Pieces.{same_short}
-use Rattle.compose.proofs.Values.{Sweeping, sweeping, sweeping_ready, sweeping_fails, sweeping_on, swept}
+use Rattle.compose.proofs.Values.{sweeping, sweeping_ready, sweeping_fails, sweeping_on, swept}
 use Rattle.compose.proofs.sweep.Goals as goal
 
 pub overflow_mul-at : goal.overflow_mul-at
