@@ -1,4 +1,6 @@
 // What `infer_abs` and `infer_app` of 000 do once their parts are inferred, over words.
+#![tactic(auto)]
+
 ghost use Rattle.std.specs.Prelude.{◌++◌, ◌+◌, ◌*◌, ◌-◌, ◌<◌, ◌≤◌, length};
 ghost use Rattle.names.specs.Names.{name_of, tyvar_of, first_nullary};
 ghost use Rattle.ast.specs.Table.{tree};
