@@ -1,4 +1,6 @@
 // `apply_subst_to_core` of 000 over words, for substitutions that make type variables letters.
+#![tactic(auto)]
+
 mod lists;
 pub mod rows;
 mod types;

@@ -1,6 +1,6 @@
 -- Corollaries: two answers that the statement allows for the same bytes are equal; what is accepted names only smaller
 -- nodes; a refusal's offset lies in the file or at its end.
-use mathlib.Core.Path.{◌≡◌, refl, sym, ap, ◌∙◌, subst}
+use mathlib.Core.Path.{◌≡◌, refl, sym, ap, ◌∙◌}
 use mathlib.Core.List.{List, []}
 use mathlib.Core.Option.{some}
 use Prim.Native.Nat.{ℕ, suc, ◌+◌, ◌≤◌}

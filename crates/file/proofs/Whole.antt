@@ -1,7 +1,7 @@
 -- The file as a whole: its length, its names, and what follows them.
-use mathlib.Core.Path.{◌≡◌, refl, sym, ap, ◌∙◌, subst}
+use mathlib.Core.Path.{◌≡◌, refl, sym, ap, ◌∙◌}
 use mathlib.Core.Bool.{Bool, true, false}
-use mathlib.Core.List.{List, [], ◌∷◌}
+use mathlib.Core.List.{List, []}
 use mathlib.Core.Option.{some}
 use Prim.Native.Nat.{ℕ, ◌+◌, ◌<◌, ◌≤◌}
 use native.Mathlib.Omega.{arith}
@@ -9,7 +9,7 @@ use lib.ListN.{length, get_or}
 use Rattle.meaning.specs.Base.{ltb, count, nth}
 use Rattle.meaning.specs.Ast.{Name}
 use Rattle.meaning.specs.Errors.{limit}
-use Rattle.meaning.specs.Reader.{Read, got, bad, Reader, onward, from, items, counted, section, end_of_file}
+use Rattle.meaning.specs.Reader.{Read, got, bad, onward, from, items, counted, section, end_of_file}
 use Rattle.meaning.specs.File as M
 use Rattle.theorems.proofs.Tests.{ltb_of, ltb_true}
 use Rattle.theorems.proofs.Grown.{nth_below}
@@ -27,9 +27,9 @@ use Rattle.nametable.specs.Tables.{NameKnown, SectionRead, NamesRead}
 use Rattle.sections.proofs.Places.{placed_kept}
 use Rattle.body.specs.declared.Reading.{Reading}
 use Rattle.body.specs.declared.Reading.TheVariants.{Good, Bad as Reading-Bad}
-use Rattle.body.specs.Tails.{with_types, with_exprs, after_exprs, after_types, after_names, Declarations, Expressions, Types, TypesAs, GivesTail}
+use Rattle.body.specs.Tails.{after_exprs, after_types, after_names, Types, TypesAs, GivesTail}
 use Rattle.body.proofs.Sequel.{goes_on}
-use Rattle.file.specs.Reading.{Places, Indexed, ReadsAs, Reads}
+use Rattle.file.specs.Reading.{ReadsAs, Reads}
 
 -- ## the length
 long : (bytes : List ℕ) → 65_535 < length bytes → ltb 65_535 (count bytes) ≡ true

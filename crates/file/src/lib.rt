@@ -1,4 +1,6 @@
 // The session file of document 01: read whole, checked, and indexed.
+#![tactic(auto)]
+
 ghost use Rattle.std.specs.Prelude.{◌≡◌, ℕ, ◌≤◌, length};
 ghost use Rattle.file.specs.Reading.{IsName, IsPlace, Reads};
 

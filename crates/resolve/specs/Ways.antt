@@ -4,7 +4,7 @@ use Rattle.std.specs.Prelude.{List}
 use Rattle.std.proofs.Math.Option.{Option, none, some}
 use Rattle.meaning.specs.Ast.{Pred, Core, Cores, dict_rec}
 use Rattle.meaning.specs.Errors.{no_instance}
-use Rattle.meaning.specs.Budget.{Steps, after, ◌>>=◌, pure, refuse}
+use Rattle.meaning.specs.Budget.{Steps, ◌>>=◌, pure, refuse}
 use Rattle.meaning.specs.Subst.{apply_type, apply_preds}
 use Rattle.meaning.specs.Classes.{ClassEnv, Given, Chosen, resolve_from_givens, by_inst, all_resolved, applied}
 

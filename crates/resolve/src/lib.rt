@@ -1,4 +1,6 @@
 // `resolve` of 001 over words: a goal's dictionary from the givens, or else from the first instance whose head matches.
+#![tactic(auto)]
+
 ghost use Rattle.std.specs.Prelude.{◌++◌, ◌+◌, ◌*◌, ◌-◌, ◌≤◌, length, get_or};
 ghost use Rattle.std.proofs.Math.Option.{none};
 ghost use Rattle.meaning.specs.Ast.{pred};
