@@ -1,5 +1,7 @@
 // The numbers of the names of a session in the byte order of the names. A row whose first word is zero holds no name, only its
 // own number; such rows come first and in rising order, so only the others are moved about.
+#![tactic(auto)]
+
 ghost use Rattle.std.specs.Prelude.{◌≡◌, ◌+◌, ◌<◌, length};
 ghost use Rattle.meaning.specs.Ast.{name_before};
 ghost use Rattle.names.specs.Names.{Names, name_of};
