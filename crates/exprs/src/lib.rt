@@ -1,4 +1,6 @@
 // Expressions of an accepted session file, with the names in them as numbers of the table of names.
+#![tactic(auto)]
+
 ghost use Rattle.exprs.specs.Exprs.{Shows};
 
 use views::ExprNode;
