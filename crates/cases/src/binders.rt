@@ -4,6 +4,8 @@ ghost use Rattle.names.specs.Names.{first_node};
 ghost use Rattle.cases.specs.Typed.{TypedRows};
 
 use crate::{dicts, say};
+use std::io;
+use std::io::Write;
 use supers::rows::Row;
 
 // Whether each of the first n rows is pending, its dictionary has a word, and its type is below the table's end.
@@ -35,20 +37,27 @@ pub fn are_typed(binders: &[u64], top: usize, n: usize) -> bool
 }
 
 // Writes what became of a row.
-pub fn row(base: &[u64], work: &[u64], names: &[u64], binders: &[u64], j: usize)
+pub fn row<W: Write>(
+    out: &mut W,
+    base: &[u64],
+    work: &[u64],
+    names: &[u64],
+    binders: &[u64],
+    j: usize,
+) -> io::Result<()>
     requires { 3 * j + 3 ≤ length binders.now }
 {
-    say::text(b" d");
+    say::text(out, b" d")?;
     let r = supers::rows::row_at(binders, j);
     match r {
         Row::Pending(d, _, _) => {
-            say::decimal(d);
-            say::text(b" stays");
+            say::decimal(out, d)?;
+            say::text(out, b" stays")
         }
         Row::Replaced(d, e) => {
-            say::decimal(d);
-            say::text(b" is ");
-            dicts::whole(base, work, names, e);
+            say::decimal(out, d)?;
+            say::text(out, b" is ")?;
+            dicts::whole(out, base, work, names, e)
         }
     }
 }

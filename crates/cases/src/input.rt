@@ -1,5 +1,23 @@
 // Reading the file. Each function answers for every place; past the end stand zeros.
-ghost use Rattle.std.specs.Prelude.{◌<◌, ◌≤◌, length};
+ghost use Rattle.std.specs.Prelude.{◌<◌, ◌≤◌, length, IfOk};
+
+use std::io;
+use std::io::Read;
+
+// Reads until the buffer is full or the input ends; how many bytes it put at the buffer's start.
+pub fn fill<R: Read>(from: &mut R, buf: &mut [u8]) -> io::Result<usize>
+    ensures { IfOk result (λ n. n ≤ length buf.new) }
+{
+    let mut done: usize = 0;
+    while done < buf.len() {
+        let n = from.read(&mut buf[done..])?;
+        if n == 0 {
+            return Ok(done);
+        }
+        done += n;
+    }
+    Ok(done)
+}
 
 // A byte as a number.
 fn wide(x: u8) -> usize

@@ -1,5 +1,7 @@
 // What the programs that run cases share: reading the names and the types of a case, testing what was read, and writing
 // names, types, dictionaries and refusals.
+#![tactic(auto)]
+
 pub mod binders;
 pub mod dicts;
 pub mod goals;

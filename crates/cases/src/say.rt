@@ -4,23 +4,24 @@ ghost use Rattle.names.specs.Names.{first_node};
 
 use ast::{Cell, Shape};
 use errors::Refusal;
-use libc::STDOUT_FILENO;
 use names::Kind;
+use std::io;
+use std::io::Write;
 
 // Writes text.
-pub fn text(s: &[u8]) {
-    io::write_all(STDOUT_FILENO, s);
+pub fn text<W: Write>(out: &mut W, s: &[u8]) -> io::Result<()> {
+    out.write_all(s)
 }
 
 // Writes a number.
-pub fn decimal(n: usize) {
-    io::print_decimal(STDOUT_FILENO, n as u64);
+pub fn decimal<W: Write>(out: &mut W, n: usize) -> io::Result<()> {
+    write!(out, "{n}")
 }
 
 // Writes a number after a blank.
-pub fn count(n: usize) {
-    text(b" ");
-    decimal(n);
+pub fn count<W: Write>(out: &mut W, n: usize) -> io::Result<()> {
+    text(out, b" ")?;
+    decimal(out, n)
 }
 
 // What the byte k of a word counts, the first highest.
@@ -46,44 +47,46 @@ fn byte_of(w: u64, k: usize) -> u8 {
 }
 
 // Writes the byte j of name i, and answers whether there is one: a name ends at its first zero.
-fn letter(names: &[u64], i: usize, j: usize) -> bool {
+fn letter<W: Write>(out: &mut W, names: &[u64], i: usize, j: usize) -> io::Result<bool> {
     let n = names.len();
     if i >= n / 4 {
-        return false;
+        return Ok(false);
     }
     if j >= 32 {
-        return false;
+        return Ok(false);
     }
     let b = byte_of(names[4 * i + j / 8], j % 8);
     if b == 0 {
-        return false;
+        return Ok(false);
     }
     let one = [b];
-    io::write_all(STDOUT_FILENO, &one)
+    out.write_all(&one)?;
+    Ok(true)
 }
 
 // Writes name i.
-pub fn name(names: &[u64], i: usize) {
+pub fn name<W: Write>(out: &mut W, names: &[u64], i: usize) -> io::Result<()> {
     let mut j: usize = 0;
-    while j < 32 && letter(names, i, j) {
+    while j < 32 && letter(out, names, i, j)? {
         j += 1;
     }
+    Ok(())
 }
 
 // Writes a made variable.
-fn made(n: usize) {
-    text(b"t");
-    decimal(n);
+fn made<W: Write>(out: &mut W, n: usize) -> io::Result<()> {
+    text(out, b"t")?;
+    decimal(out, n)
 }
 
 // Writes a variable.
-pub fn variable(names: &[u64], x: usize) {
+pub fn variable<W: Write>(out: &mut W, names: &[u64], x: usize) -> io::Result<()> {
     let k = names::kind_of(x);
     match k {
-        Kind::Node(_) => {}
-        Kind::Named(i) => name(names, i),
-        Kind::Fresh(n) => made(n),
-        Kind::Nullary(_) => {}
+        Kind::Node(_) => Ok(()),
+        Kind::Named(i) => name(out, names, i),
+        Kind::Fresh(n) => made(out, n),
+        Kind::Nullary(_) => Ok(()),
     }
 }
 
@@ -115,124 +118,199 @@ pub fn cell(base: &[u64], work: &[u64], l: usize) -> Cell {
 
 // Writes a constructor and its arguments.
 #[cycle(arrow_con_list_tree)]
-fn con(base: &[u64], work: &[u64], names: &[u64], depth: usize, c: usize, l: usize) {
+fn con<W: Write>(
+    out: &mut W,
+    base: &[u64],
+    work: &[u64],
+    names: &[u64],
+    depth: usize,
+    c: usize,
+    l: usize,
+) -> io::Result<()> {
     if l == ast::NIL {
-        name(names, c);
-        return;
+        return name(out, names, c);
     }
-    text(b"(");
-    name(names, c);
-    list(base, work, names, depth, l);
-    text(b")");
+    text(out, b"(")?;
+    name(out, names, c)?;
+    list(out, base, work, names, depth, l)?;
+    text(out, b")")
 }
 
 // Writes a list of types, a blank before each.
 #[cycle(arrow_con_list_tree)]
-fn list(base: &[u64], work: &[u64], names: &[u64], depth: usize, l: usize) {
+fn list<W: Write>(
+    out: &mut W,
+    base: &[u64],
+    work: &[u64],
+    names: &[u64],
+    depth: usize,
+    l: usize,
+) -> io::Result<()> {
     if depth == 0 {
-        return;
+        return Ok(());
     }
     let c = cell(base, work, l);
     match c {
-        Cell::Nil => {}
+        Cell::Nil => Ok(()),
         Cell::Cons(a, b) => {
-            text(b" ");
-            tree(base, work, names, depth - 1, a);
-            list(base, work, names, depth - 1, b);
+            text(out, b" ")?;
+            tree(out, base, work, names, depth - 1, a)?;
+            list(out, base, work, names, depth - 1, b)
         }
     }
 }
 
 // Writes an arrow.
 #[cycle(arrow_con_list_tree)]
-fn arrow(base: &[u64], work: &[u64], names: &[u64], depth: usize, a: usize, b: usize) {
-    text(b"(-> ");
-    tree(base, work, names, depth, a);
-    text(b" ");
-    tree(base, work, names, depth, b);
-    text(b")");
+fn arrow<W: Write>(
+    out: &mut W,
+    base: &[u64],
+    work: &[u64],
+    names: &[u64],
+    depth: usize,
+    a: usize,
+    b: usize,
+) -> io::Result<()> {
+    text(out, b"(-> ")?;
+    tree(out, base, work, names, depth, a)?;
+    text(out, b" ")?;
+    tree(out, base, work, names, depth, b)?;
+    text(out, b")")
 }
 
 // Writes a type, so many levels of it.
 #[cycle(arrow_con_list_tree)]
-fn tree(base: &[u64], work: &[u64], names: &[u64], depth: usize, t: usize) {
+fn tree<W: Write>(
+    out: &mut W,
+    base: &[u64],
+    work: &[u64],
+    names: &[u64],
+    depth: usize,
+    t: usize,
+) -> io::Result<()> {
     if depth == 0 {
-        return;
+        return Ok(());
     }
     let s = shape(base, work, t);
     match s {
-        Shape::Var(x) => variable(names, x),
-        Shape::Con(c, l) => con(base, work, names, depth - 1, c, l),
-        Shape::Arrow(a, b) => arrow(base, work, names, depth - 1, a, b),
+        Shape::Var(x) => variable(out, names, x),
+        Shape::Con(c, l) => con(out, base, work, names, depth - 1, c, l),
+        Shape::Arrow(a, b) => arrow(out, base, work, names, depth - 1, a, b),
     }
 }
 
 // Writes a type: no recorded answer has as many levels.
-pub fn whole(base: &[u64], work: &[u64], names: &[u64], t: usize) {
-    tree(base, work, names, 1000000, t);
+pub fn whole<W: Write>(
+    out: &mut W,
+    base: &[u64],
+    work: &[u64],
+    names: &[u64],
+    t: usize,
+) -> io::Result<()> {
+    tree(out, base, work, names, 1000000, t)
 }
 
 // Writes a list of types, a blank before each: no list that is written has as many.
-pub fn all(base: &[u64], work: &[u64], names: &[u64], l: usize) {
-    list(base, work, names, 1000000, l);
+pub fn all<W: Write>(
+    out: &mut W,
+    base: &[u64],
+    work: &[u64],
+    names: &[u64],
+    l: usize,
+) -> io::Result<()> {
+    list(out, base, work, names, 1000000, l)
 }
 
 // Writes two types, a blank before each.
-fn types(base: &[u64], work: &[u64], names: &[u64], a: usize, b: usize) {
-    text(b" ");
-    whole(base, work, names, a);
-    text(b" ");
-    whole(base, work, names, b);
+fn types<W: Write>(
+    out: &mut W,
+    base: &[u64],
+    work: &[u64],
+    names: &[u64],
+    a: usize,
+    b: usize,
+) -> io::Result<()> {
+    text(out, b" ")?;
+    whole(out, base, work, names, a)?;
+    text(out, b" ")?;
+    whole(out, base, work, names, b)
 }
 
 // Writes a variable and a type, a blank before each.
-fn binding(base: &[u64], work: &[u64], names: &[u64], v: usize, t: usize) {
-    text(b" ");
-    variable(names, v);
-    text(b" ");
-    whole(base, work, names, t);
+fn binding<W: Write>(
+    out: &mut W,
+    base: &[u64],
+    work: &[u64],
+    names: &[u64],
+    v: usize,
+    t: usize,
+) -> io::Result<()> {
+    text(out, b" ")?;
+    variable(out, names, v)?;
+    text(out, b" ")?;
+    whole(out, base, work, names, t)
 }
 
 // Writes two names, a blank before each.
-fn two_names(names: &[u64], c: usize, d: usize) {
-    text(b" ");
-    name(names, c);
-    text(b" ");
-    name(names, d);
+fn two_names<W: Write>(out: &mut W, names: &[u64], c: usize, d: usize) -> io::Result<()> {
+    text(out, b" ")?;
+    name(out, names, c)?;
+    text(out, b" ")?;
+    name(out, names, d)
 }
 
 // Writes a name and two numbers, a blank before each.
-fn arity(names: &[u64], c: usize, m: usize, n: usize) {
-    text(b" ");
-    name(names, c);
-    count(m);
-    count(n);
+fn arity<W: Write>(out: &mut W, names: &[u64], c: usize, m: usize, n: usize) -> io::Result<()> {
+    text(out, b" ")?;
+    name(out, names, c)?;
+    count(out, m)?;
+    count(out, n)
 }
 
 // Writes a class and a type, a blank before each.
-fn of_class(base: &[u64], work: &[u64], names: &[u64], c: usize, t: usize) {
-    text(b" ");
-    name(names, c);
-    text(b" ");
-    whole(base, work, names, t);
+fn of_class<W: Write>(
+    out: &mut W,
+    base: &[u64],
+    work: &[u64],
+    names: &[u64],
+    c: usize,
+    t: usize,
+) -> io::Result<()> {
+    text(out, b" ")?;
+    name(out, names, c)?;
+    text(out, b" ")?;
+    whole(out, base, work, names, t)
 }
 
 // Writes the values of a refusal by unification, matching, resolution or the test of overlap; 6 and 7 have none.
-fn values(base: &[u64], work: &[u64], names: &[u64], e: Refusal) {
+fn values<W: Write>(
+    out: &mut W,
+    base: &[u64],
+    work: &[u64],
+    names: &[u64],
+    e: Refusal,
+) -> io::Result<()> {
     match e {
-        Refusal::UnificationFailure(a, b) => types(base, work, names, a, b),
-        Refusal::OccursCheck(v, t) => binding(base, work, names, v, t),
-        Refusal::ConMismatch(c, d) => two_names(names, c, d),
-        Refusal::ArityMismatch(c, m, n) => arity(names, c, m, n),
-        Refusal::NoInstance(c, t) => of_class(base, work, names, c, t),
-        Refusal::DuplicateInstance(c, t) => of_class(base, work, names, c, t),
-        _ => {}
+        Refusal::UnificationFailure(a, b) => types(out, base, work, names, a, b),
+        Refusal::OccursCheck(v, t) => binding(out, base, work, names, v, t),
+        Refusal::ConMismatch(c, d) => two_names(out, names, c, d),
+        Refusal::ArityMismatch(c, m, n) => arity(out, names, c, m, n),
+        Refusal::NoInstance(c, t) => of_class(out, base, work, names, c, t),
+        Refusal::DuplicateInstance(c, t) => of_class(out, base, work, names, c, t),
+        _ => Ok(()),
     }
 }
 
 // Writes a refusal, the steps left, and its values.
-pub fn refusal(base: &[u64], work: &[u64], names: &[u64], e: Refusal, left: usize) {
-    io::print_decimal(STDOUT_FILENO, errors::number(e));
-    count(left);
-    values(base, work, names, e);
+pub fn refusal<W: Write>(
+    out: &mut W,
+    base: &[u64],
+    work: &[u64],
+    names: &[u64],
+    e: Refusal,
+    left: usize,
+) -> io::Result<()> {
+    decimal(out, errors::number(e) as usize)?;
+    count(out, left)?;
+    values(out, base, work, names, e)
 }

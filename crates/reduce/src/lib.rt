@@ -1,4 +1,6 @@
 // `reduce` of 001 over words: the dictionaries of binders, which are rows of a lent slice.
+#![tactic(auto)]
+
 ghost use Rattle.std.specs.Prelude.{◌≡◌, ◌++◌, ◌+◌, ◌*◌, ◌≤◌, length};
 ghost use Rattle.meaning.specs.Ast.{pred};
 ghost use Rattle.meaning.specs.Reduce as M;

@@ -23,6 +23,8 @@
 // classes and some 20 instances, with goals mostly for their heads (191); and three no cases. The lines are those of a
 // reference implementation of the scope document in Rust; for the test of overlap it declared an instance, and the steps
 // of its head's nodes were taken off. docs/TESTING.md says more.
+#![tactic(auto)]
+
 mod lists;
 mod say;
 mod table;
@@ -32,11 +34,13 @@ ghost use Rattle.names.specs.Names.{Names};
 ghost use Rattle.cases.specs.Posed.{Posed};
 
 use cases::{goals, input, nodes, rows};
-use libc::STDIN_FILENO;
+use std::io;
+use std::io::{BufWriter, Write};
 use supers::Root;
 
 // Resolves a goal of class c at t with 256 levels, or tests a head for overlap; all words for the stack.
-fn run(
+fn run<W: Write>(
+    out: &mut W,
     base: &[u64],
     work: &mut [u64],
     names: &[u64],
@@ -49,7 +53,7 @@ fn run(
     l: usize,
     c: usize,
     t: usize,
-)
+) -> io::Result<()>
     requires base_len { length base.now ≡ 0 }
     requires names { Names names.now }
     requires posed { Posed (base.now ++ work.old) (length work.old) insts.now top left h l t }
@@ -71,15 +75,15 @@ fn run(
             c,
             t,
         );
-        say::resolved(base, work, names, r);
-        return;
+        return say::resolved(out, base, work, names, r);
     }
     let r = instances::none_overlaps(base, work, names, insts, top, left, sp, c, t);
-    say::apart(base, work, names, r);
+    say::apart(out, base, work, names, r)
 }
 
 // Answers a case, if it is one.
-fn answer(
+fn answer<W: Write>(
+    out: &mut W,
     base: &[u64],
     work: &mut [u64],
     names: &[u64],
@@ -92,20 +96,22 @@ fn answer(
     l: usize,
     c: usize,
     t: usize,
-)
+) -> io::Result<()>
     requires base_len { length base.now ≡ 0 }
     requires names { Names names.now }
 {
     if goals::is_posed(base, work, insts, top, left, h, l, t) {
-        run(base, work, names, classes, insts, op, top, left, h, l, c, t);
-        cases::say::text(b"\n");
-        return;
+        run(
+            out, base, work, names, classes, insts, op, top, left, h, l, c, t,
+        )?;
+        return cases::say::text(out, b"\n");
     }
-    cases::say::text(b"no case\n");
+    cases::say::text(out, b"no case\n")
 }
 
 // Reads the context and the goal of a case at a place, and answers it; the place behind it.
-fn asked(
+fn asked<W: Write>(
+    out: &mut W,
     file: &[u8],
     at: usize,
     base: &[u64],
@@ -118,7 +124,7 @@ fn asked(
     left: usize,
     k: usize,
     top: usize,
-) -> usize
+) -> io::Result<usize>
     requires base_len { length base.now ≡ 0 }
     requires names { Names names.now }
 {
@@ -129,13 +135,14 @@ fn asked(
     let j = input::skip(file, g.at, 2);
     let t = nodes::id(file, j, ids, k);
     answer(
-        base, work, names, classes, insts, op, g.top, left, h, g.word, c, t,
-    );
-    input::skip(file, j, 2)
+        out, base, work, names, classes, insts, op, g.top, left, h, g.word, c, t,
+    )?;
+    Ok(input::skip(file, j, 2))
 }
 
 // Reads the instances of a case at a place and what follows, and answers it; the place behind it.
-fn declared(
+fn declared<W: Write>(
+    out: &mut W,
     file: &[u8],
     at: usize,
     base: &[u64],
@@ -148,7 +155,7 @@ fn declared(
     left: usize,
     k: usize,
     top: usize,
-) -> usize
+) -> io::Result<usize>
     requires base_len { length base.now ≡ 0 }
     requires names { Names names.now }
 {
@@ -157,6 +164,7 @@ fn declared(
     let n = nodes::least(m, insts.len());
     let b = lists::instances(file, i, base, work, ids, k, top, insts, n);
     asked(
+        out,
         file,
         b.at,
         base,
@@ -173,7 +181,8 @@ fn declared(
 }
 
 // Reads the case at a place and answers it; the place behind it.
-fn one(
+fn one<W: Write>(
+    out: &mut W,
     file: &[u8],
     at: usize,
     base: &[u64],
@@ -182,7 +191,7 @@ fn one(
     ids: &mut [u64],
     classes: &mut [u64],
     insts: &mut [u64],
-) -> usize
+) -> io::Result<usize>
     requires base_len { length base.now ≡ 0 }
     requires names { Names names.now }
 {
@@ -196,12 +205,13 @@ fn one(
     let rows = nodes::least(names.len() / 4, 1024);
     let next = table::read(file, b.at, classes, rows);
     declared(
-        file, next, base, names, work, ids, classes, insts, op, left, k, b.top,
+        out, file, next, base, names, work, ids, classes, insts, op, left, k, b.top,
     )
 }
 
 // All cases from a place on. The turns count down: a case has at least one byte.
-fn replay_cases(
+fn replay_cases<W: Write>(
+    out: &mut W,
     file: &[u8],
     from: usize,
     base: &[u64],
@@ -210,7 +220,7 @@ fn replay_cases(
     ids: &mut [u64],
     classes: &mut [u64],
     insts: &mut [u64],
-)
+) -> io::Result<()>
     requires base_len { length base.now ≡ 0 }
     requires names { Names names.now }
 {
@@ -218,13 +228,15 @@ fn replay_cases(
     let mut at = from;
     let mut turns = n;
     while turns > 0 && at < n {
-        at = one(file, at, base, names, work, ids, classes, insts);
+        at = one(out, file, at, base, names, work, ids, classes, insts)?;
         turns -= 1;
     }
+    Ok(())
 }
 
 // The cases from a place on, if no two names are equal. No type lies in a closed table.
-fn with_names(
+fn with_names<W: Write>(
+    out: &mut W,
     file: &[u8],
     at: usize,
     names: &[u64],
@@ -232,42 +244,47 @@ fn with_names(
     ids: &mut [u64],
     classes: &mut [u64],
     insts: &mut [u64],
-) {
+) -> io::Result<()> {
     let base = [0u64; 0];
     if rows::are_distinct(names) {
-        replay_cases(file, at, &base, names, work, ids, classes, insts);
+        replay_cases(out, file, at, &base, names, work, ids, classes, insts)?;
     }
+    Ok(())
 }
 
 // A whole file: the names, then the cases.
-fn replay(
+fn replay<W: Write>(
+    out: &mut W,
     file: &[u8],
     names: &mut [u64],
     work: &mut [u64],
     ids: &mut [u64],
     classes: &mut [u64],
     insts: &mut [u64],
-) {
+) -> io::Result<()> {
     let h = rows::read(file, names);
     let n = 4 * h.count;
-    with_names(file, h.at, &names[..n], work, ids, classes, insts);
+    with_names(out, file, h.at, &names[..n], work, ids, classes, insts)
 }
 
 // Reads the file and replays it. There are words for some 16,000 steps.
-fn main() {
+fn main(rt: HostRuntime) -> io::Result<()> {
+    let mut out = BufWriter::new(rt.alloc(), rt.stdout())?;
     let mut file = [0u8; 163840];
-    let n = io::read_full(STDIN_FILENO, &mut file);
+    let n = input::fill(&mut rt.stdin(), &mut file)?;
     let mut names = [0u64; 2048];
     let mut work = [0u64; 135168];
     let mut ids = [0u64; 1024];
     let mut classes = [0u64; 2048];
     let mut insts = [0u64; 256];
     replay(
+        &mut out,
         &file[..n],
         &mut names,
         &mut work,
         &mut ids,
         &mut classes,
         &mut insts,
-    );
+    )?;
+    out.flush()
 }

@@ -2,33 +2,54 @@
 use cases::say;
 use instances::Apart;
 use resolve::Resolved;
+use std::io;
+use std::io::Write;
 
 // Writes the steps left and a dictionary.
-fn done(base: &[u64], work: &[u64], names: &[u64], e: usize, left: usize) {
-    say::text(b"0");
-    say::count(left);
-    say::text(b" ");
-    cases::dicts::whole(base, work, names, e);
+fn done<W: Write>(
+    out: &mut W,
+    base: &[u64],
+    work: &[u64],
+    names: &[u64],
+    e: usize,
+    left: usize,
+) -> io::Result<()> {
+    say::text(out, b"0")?;
+    say::count(out, left)?;
+    say::text(out, b" ")?;
+    cases::dicts::whole(out, base, work, names, e)
 }
 
 // Writes the answer of resolution.
-pub fn resolved(base: &[u64], work: &[u64], names: &[u64], r: Resolved) {
+pub fn resolved<W: Write>(
+    out: &mut W,
+    base: &[u64],
+    work: &[u64],
+    names: &[u64],
+    r: Resolved,
+) -> io::Result<()> {
     match r {
-        Resolved::Done(e, _, left) => done(base, work, names, e, left),
-        Resolved::Refused(e, _, left) => say::refusal(base, work, names, e, left),
+        Resolved::Done(e, _, left) => done(out, base, work, names, e, left),
+        Resolved::Refused(e, _, left) => say::refusal(out, base, work, names, e, left),
     }
 }
 
 // Writes the steps that the test of overlap left.
-fn accepted(left: usize) {
-    say::text(b"0");
-    say::count(left);
+fn accepted<W: Write>(out: &mut W, left: usize) -> io::Result<()> {
+    say::text(out, b"0")?;
+    say::count(out, left)
 }
 
 // Writes the answer of the test of overlap.
-pub fn apart(base: &[u64], work: &[u64], names: &[u64], r: Apart) {
+pub fn apart<W: Write>(
+    out: &mut W,
+    base: &[u64],
+    work: &[u64],
+    names: &[u64],
+    r: Apart,
+) -> io::Result<()> {
     match r {
-        Apart::All(left) => accepted(left),
-        Apart::Refused(e, _, left) => say::refusal(base, work, names, e, left),
+        Apart::All(left) => accepted(out, left),
+        Apart::Refused(e, _, left) => say::refusal(out, base, work, names, e, left),
     }
 }

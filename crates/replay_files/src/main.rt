@@ -1,10 +1,13 @@
 // Replays recorded session files, good and damaged: reads them from standard input, hands each to `file::read`, and writes
 // a line for each.
-ghost use Rattle.std.specs.Prelude.{◌<◌, ◌≤◌, length};
+#![tactic(auto)]
+
+ghost use Rattle.std.specs.Prelude.{◌<◌, ◌≤◌, length, IfOk};
 
 use body::Reading;
 use errors::Refusal;
-use libc::{STDIN_FILENO, STDOUT_FILENO};
+use std::io;
+use std::io::{BufWriter, Read, Write};
 
 // A byte as a number.
 fn wide(x: u8) -> usize
@@ -19,9 +22,8 @@ fn length_of(h: [u8; 4]) -> usize {
 }
 
 // Writes a number after a blank.
-fn number(n: usize) {
-    io::write_all(STDOUT_FILENO, b" ");
-    io::print_decimal(STDOUT_FILENO, n as u64);
+fn number<W: Write>(out: &mut W, n: usize) -> io::Result<()> {
+    write!(out, " {n}")
 }
 
 // The offset of a refusal of a file.
@@ -35,66 +37,101 @@ fn offset(e: Refusal) -> usize {
 }
 
 // Writes the line of an answer: how many names, types, expressions and declarations; or number and offset of a refusal.
-fn say(r: Reading) {
+fn say<W: Write>(out: &mut W, r: Reading) -> io::Result<()> {
     match r {
         Reading::Good(a, b, c, d) => {
-            io::write_all(STDOUT_FILENO, b"read");
-            number(a);
-            number(b);
-            number(c);
-            number(d);
+            out.write_all(b"read")?;
+            number(out, a)?;
+            number(out, b)?;
+            number(out, c)?;
+            number(out, d)?;
         }
         Reading::Bad(e) => {
-            io::write_all(STDOUT_FILENO, b"refused");
-            number(errors::number(e) as usize);
-            number(offset(e));
+            out.write_all(b"refused")?;
+            number(out, errors::number(e) as usize)?;
+            number(out, offset(e))?;
         }
     }
-    io::write_all(STDOUT_FILENO, b"\n");
+    out.write_all(b"\n")
+}
+
+// Reads until the buffer is full or the input ends; how many bytes it put at the buffer's start.
+fn fill<R: Read>(input: &mut R, buf: &mut [u8]) -> io::Result<usize>
+    ensures { IfOk result (λ n. n ≤ length buf.new) }
+{
+    let mut done: usize = 0;
+    while done < buf.len() {
+        let n = input.read(&mut buf[done..])?;
+        if n == 0 {
+            return Ok(done);
+        }
+        done += n;
+    }
+    Ok(done)
 }
 
 // The length of the next file; more than any file has where the input ends.
-fn next_length() -> usize {
+fn next_length<R: Read>(input: &mut R) -> io::Result<usize> {
     let mut head = [0u8; 4];
-    let h = io::read_full(STDIN_FILENO, &mut head);
+    let h = fill(input, &mut head)?;
     if h < 4 {
-        return 1000000;
+        return Ok(1000000);
     }
-    length_of(head)
+    Ok(length_of(head))
 }
 
 // Reads a file and says what it is.
-fn answer(src: &[u8], names: &mut [u64; 4236], index: &mut [u64; 11776]) {
+fn answer<W: Write>(
+    out: &mut W,
+    src: &[u8],
+    names: &mut [u64; 4236],
+    index: &mut [u64; 11776],
+) -> io::Result<()> {
     let r = file::read(src, names, index);
-    say(r);
+    say(out, r)
 }
 
 // One file. Answers whether to go on.
-fn one(buf: &mut [u8], names: &mut [u64; 4236], index: &mut [u64; 11776]) -> bool {
-    let n = next_length();
+fn one<R: Read, W: Write>(
+    input: &mut R,
+    out: &mut W,
+    buf: &mut [u8],
+    names: &mut [u64; 4236],
+    index: &mut [u64; 11776],
+) -> io::Result<bool> {
+    let n = next_length(input)?;
     if buf.len() < n {
-        return false;
+        return Ok(false);
     }
-    let got = io::read_full(STDIN_FILENO, &mut buf[..n]);
+    let got = fill(input, &mut buf[..n])?;
     if got < n {
-        return false;
+        return Ok(false);
     }
-    answer(&buf[..n], names, index);
-    true
+    answer(out, &buf[..n], names, index)?;
+    Ok(true)
 }
 
 // All files. Nothing says that the input ends, so the loop counts its turns down.
-fn all(buf: &mut [u8], names: &mut [u64; 4236], index: &mut [u64; 11776]) {
+fn all<R: Read, W: Write>(
+    input: &mut R,
+    out: &mut W,
+    buf: &mut [u8],
+    names: &mut [u64; 4236],
+    index: &mut [u64; 11776],
+) -> io::Result<()> {
     let mut turns = u64::MAX;
-    while turns > 0 && one(buf, names, index) {
+    while turns > 0 && one(input, out, buf, names, index)? {
         turns -= 1;
     }
+    Ok(())
 }
 
 // The table and the index are lent to all files in turn, and keep what the file before left in them.
-fn main() {
+fn main(rt: HostRuntime) -> io::Result<()> {
+    let mut out = BufWriter::new(rt.alloc(), rt.stdout())?;
     let mut buf = [0u8; 65600];
     let mut names = [0u64; 4236];
     let mut index = [0u64; 11776];
-    all(&mut buf, &mut names, &mut index);
+    all(&mut rt.stdin(), &mut out, &mut buf, &mut names, &mut index)?;
+    out.flush()
 }

@@ -29,6 +29,8 @@
 // were compared with the Rust to which a step meter was added, answers and steps, and the 508 that meet neither 6 nor 7
 // with the unchanged Rust. Where several variables conflict in a match, the Rust names one by the order of its hash map;
 // there the recorded answer is one that it gives.
+#![tactic(auto)]
+
 mod say;
 
 ghost use Rattle.std.specs.Prelude.{◌≡◌, ◌++◌, length};
@@ -37,7 +39,8 @@ ghost use Rattle.cases.specs.Tested.{Fits};
 
 use apply::Applied;
 use cases::{input, nodes, ready, rows};
-use libc::STDIN_FILENO;
+use std::io;
+use std::io::{BufWriter, Write};
 
 // Unifies or matches two types, with 256 levels, and all words for the stack.
 fn run(
@@ -62,7 +65,8 @@ fn run(
 }
 
 // Answers a case that was tested.
-fn solve(
+fn solve<W: Write>(
+    out: &mut W,
     base: &[u64],
     work: &mut [u64],
     names: &[u64],
@@ -71,18 +75,19 @@ fn solve(
     left: usize,
     s: usize,
     t: usize,
-)
+) -> io::Result<()>
     requires base_len { length base.now ≡ 0 }
     requires names { Names names.now }
     requires fits { Fits (base.now ++ work.old) (length work.old) top left s t }
 {
     let r = run(base, work, names, op, top, left, s, t);
-    say::answer(base, work, names, r);
-    cases::say::text(b"\n");
+    say::answer(out, base, work, names, r)?;
+    cases::say::text(out, b"\n")
 }
 
 // Answers a case, if it is one.
-fn answer(
+fn answer<W: Write>(
+    out: &mut W,
     base: &[u64],
     work: &mut [u64],
     names: &[u64],
@@ -91,19 +96,19 @@ fn answer(
     left: usize,
     s: usize,
     t: usize,
-)
+) -> io::Result<()>
     requires base_len { length base.now ≡ 0 }
     requires names { Names names.now }
 {
     if ready::is_ready(base, work, top, left, s, t) {
-        solve(base, work, names, op, top, left, s, t);
-        return;
+        return solve(out, base, work, names, op, top, left, s, t);
     }
-    cases::say::text(b"no case\n");
+    cases::say::text(out, b"no case\n")
 }
 
 // Reads the nodes and the two types of a case at a place, and answers it; the place behind it.
-fn typed(
+fn typed<W: Write>(
+    out: &mut W,
     file: &[u8],
     at: usize,
     base: &[u64],
@@ -112,7 +117,7 @@ fn typed(
     ids: &mut [u64],
     op: usize,
     left: usize,
-) -> usize
+) -> io::Result<usize>
     requires base_len { length base.now ≡ 0 }
     requires names { Names names.now }
 {
@@ -122,19 +127,20 @@ fn typed(
     let s = nodes::id(file, b.at, ids, k);
     let j = input::skip(file, b.at, 2);
     let t = nodes::id(file, j, ids, k);
-    answer(base, work, names, op, b.top, left, s, t);
-    input::skip(file, j, 2)
+    answer(out, base, work, names, op, b.top, left, s, t)?;
+    Ok(input::skip(file, j, 2))
 }
 
 // Reads the case at a place and answers it; the place behind it.
-fn one(
+fn one<W: Write>(
+    out: &mut W,
     file: &[u8],
     at: usize,
     base: &[u64],
     names: &[u64],
     work: &mut [u64],
     ids: &mut [u64],
-) -> usize
+) -> io::Result<usize>
     requires base_len { length base.now ≡ 0 }
     requires names { Names names.now }
 {
@@ -142,11 +148,19 @@ fn one(
     let i = input::skip(file, at, 1);
     let left = input::four(file, i);
     let j = input::skip(file, i, 4);
-    typed(file, j, base, names, work, ids, op, left)
+    typed(out, file, j, base, names, work, ids, op, left)
 }
 
 // All cases from a place on. The turns count down: a case has at least one byte.
-fn cases(file: &[u8], from: usize, base: &[u64], names: &[u64], work: &mut [u64], ids: &mut [u64])
+fn cases<W: Write>(
+    out: &mut W,
+    file: &[u8],
+    from: usize,
+    base: &[u64],
+    names: &[u64],
+    work: &mut [u64],
+    ids: &mut [u64],
+) -> io::Result<()>
     requires base_len { length base.now ≡ 0 }
     requires names { Names names.now }
 {
@@ -154,32 +168,49 @@ fn cases(file: &[u8], from: usize, base: &[u64], names: &[u64], work: &mut [u64]
     let mut at = from;
     let mut turns = n;
     while turns > 0 && at < n {
-        at = one(file, at, base, names, work, ids);
+        at = one(out, file, at, base, names, work, ids)?;
         turns -= 1;
     }
+    Ok(())
 }
 
 // The cases from a place on, if no two names are equal. No type lies in a closed table.
-fn with_names(file: &[u8], at: usize, names: &[u64], work: &mut [u64], ids: &mut [u64]) {
+fn with_names<W: Write>(
+    out: &mut W,
+    file: &[u8],
+    at: usize,
+    names: &[u64],
+    work: &mut [u64],
+    ids: &mut [u64],
+) -> io::Result<()> {
     let base = [0u64; 0];
     if rows::are_distinct(names) {
-        cases(file, at, &base, names, work, ids);
+        cases(out, file, at, &base, names, work, ids)?;
     }
+    Ok(())
 }
 
 // A whole file: the names, then the cases.
-fn replay(file: &[u8], names: &mut [u64], work: &mut [u64], ids: &mut [u64]) {
+fn replay<W: Write>(
+    out: &mut W,
+    file: &[u8],
+    names: &mut [u64],
+    work: &mut [u64],
+    ids: &mut [u64],
+) -> io::Result<()> {
     let h = rows::read(file, names);
     let n = 4 * h.count;
-    with_names(file, h.at, &names[..n], work, ids);
+    with_names(out, file, h.at, &names[..n], work, ids)
 }
 
 // Reads the file and replays it. There are words for 65,536 steps, which `unify` takes at 256 levels of `List`.
-fn main() {
+fn main(rt: HostRuntime) -> io::Result<()> {
+    let mut out = BufWriter::new(rt.alloc(), rt.stdout())?;
     let mut file = [0u8; 163840];
-    let n = io::read_full(STDIN_FILENO, &mut file);
+    let n = input::fill(&mut rt.stdin(), &mut file)?;
     let mut names = [0u64; 1024];
     let mut work = [0u64; 540672];
     let mut ids = [0u64; 1024];
-    replay(&file[..n], &mut names, &mut work, &mut ids);
+    replay(&mut out, &file[..n], &mut names, &mut work, &mut ids)?;
+    out.flush()
 }

@@ -6,6 +6,8 @@ ghost use Rattle.cases.specs.Typed.{TypedRows};
 
 use cases::say;
 use reduce::Reduced;
+use std::io;
+use std::io::Write;
 use supers::Root;
 
 // The names, by their numbers.
@@ -43,30 +45,44 @@ fn build(base: &[u64], work: &mut [u64])
 }
 
 // Writes what became of three rows.
-fn rows(base: &[u64], work: &[u64], names: &[u64], binders: &[u64]) {
+fn rows<W: Write>(
+    out: &mut W,
+    base: &[u64],
+    work: &[u64],
+    names: &[u64],
+    binders: &[u64],
+) -> io::Result<()> {
     if binders.len() < 9 {
-        return;
+        return Ok(());
     }
-    cases::binders::row(base, work, names, binders, 0);
-    cases::binders::row(base, work, names, binders, 1);
-    cases::binders::row(base, work, names, binders, 2);
+    cases::binders::row(out, base, work, names, binders, 0)?;
+    cases::binders::row(out, base, work, names, binders, 1)?;
+    cases::binders::row(out, base, work, names, binders, 2)
 }
 
 // Writes what came of a reduction.
-fn answer(base: &[u64], work: &[u64], names: &[u64], binders: &[u64], r: Reduced) {
+fn answer<W: Write>(
+    out: &mut W,
+    base: &[u64],
+    work: &[u64],
+    names: &[u64],
+    binders: &[u64],
+    r: Reduced,
+) -> io::Result<()> {
     match r {
         Reduced::Done(_, left) => {
-            say::text(b"0");
-            say::count(left);
-            rows(base, work, names, binders);
+            say::text(out, b"0")?;
+            say::count(out, left)?;
+            rows(out, base, work, names, binders)?;
         }
-        Reduced::Refused(e, _, left) => say::refusal(base, work, names, e, left),
+        Reduced::Refused(e, _, left) => say::refusal(out, base, work, names, e, left)?,
     }
-    say::text(b"\n");
+    say::text(out, b"\n")
 }
 
 // Reduces three rows under the context l of a head of class h, and writes what became of them.
-fn run(
+fn run<W: Write>(
+    out: &mut W,
     base: &[u64],
     work: &mut [u64],
     names: &[u64],
@@ -77,7 +93,7 @@ fn run(
     left: usize,
     h: usize,
     l: usize,
-)
+) -> io::Result<()>
     requires base_len { length base.now ≡ 0 }
     requires names { Names names.now }
     requires posed { Posed (base.now ++ work.old) (length work.old) insts.now top left h l l }
@@ -99,11 +115,12 @@ fn run(
         l,
         3,
     );
-    answer(base, work, names, binders, r);
+    answer(out, base, work, names, binders, r)
 }
 
 // The same, if the words are what it asks.
-fn tested(
+fn tested<W: Write>(
+    out: &mut W,
     base: &[u64],
     work: &mut [u64],
     names: &[u64],
@@ -112,7 +129,7 @@ fn tested(
     binders: &mut [u64],
     left: usize,
     l: usize,
-)
+) -> io::Result<()>
     requires base_len { length base.now ≡ 0 }
     requires in_bounds { 9 ≤ length binders.old }
 {
@@ -120,15 +137,16 @@ fn tested(
         if cases::goals::is_posed(base, work, insts, TOP, left, ORD, l, l) {
             if cases::binders::are_typed(binders, TOP, 3) {
                 run(
-                    base, work, names, classes, insts, binders, TOP, left, ORD, l,
-                );
+                    out, base, work, names, classes, insts, binders, TOP, left, ORD, l,
+                )?;
             }
         }
     }
+    Ok(())
 }
 
 // One line. The names are Eq, Ord, Int, List and a; the class table has a row for each, and then the superclass of Ord.
-fn case(left: usize, l: usize) {
+fn case<W: Write>(out: &mut W, left: usize, l: usize) -> io::Result<()> {
     let base = [0u64; 0];
     let mut work = [0u64; 512];
     let names = [
@@ -158,6 +176,7 @@ fn case(left: usize, l: usize) {
     let mut binders = [0, 0, 9223372036854775812, 1, 0, 4, 2, 1, 4u64];
     build(&base, &mut work);
     tested(
+        out,
         &base,
         &mut work,
         &names,
@@ -166,12 +185,12 @@ fn case(left: usize, l: usize) {
         &mut binders,
         left,
         l,
-    );
+    )
 }
 
 // With the given, with one step too few, and without the given.
-pub fn lines() {
-    case(40, GIVEN);
-    case(16, GIVEN);
-    case(40, ast::NIL);
+pub fn lines<W: Write>(out: &mut W) -> io::Result<()> {
+    case(out, 40, GIVEN)?;
+    case(out, 16, GIVEN)?;
+    case(out, 40, ast::NIL)
 }

@@ -7,6 +7,8 @@ ghost use Rattle.replay_schemes.specs.Few.{FewIn, FewOf, Schemed};
 use crate::say;
 use ast::{Cell, Shape};
 use free::Vars;
+use std::io;
+use std::io::Write;
 use subst::{AppliedQual, Subst};
 
 // The names, by their numbers.
@@ -151,7 +153,8 @@ fn filled(
 }
 
 // Does what the number op says, and writes what came of it.
-fn run(
+fn run<W: Write>(
+    out: &mut W,
     base: &[u64],
     work: &mut [u64],
     names: &[u64],
@@ -162,27 +165,26 @@ fn run(
     vs: usize,
     ps: usize,
     t: usize,
-)
+) -> io::Result<()>
     requires base_len { length base.now ≡ 0 }
     requires names { Names names.now }
     requires schemed { Schemed (base.now ++ work.old) (length work.old) top left vs ps t }
 {
     if op == 5 {
         let r = filled(base, work, names, v, top, left, vs, ps, t);
-        say::answer(base, work, names, vs, r);
-        return;
+        return say::answer(out, base, work, names, vs, r);
     }
     if op == 4 {
-        say::truth(subst::is_closed(base, work, names, top, vs, ps, t));
-        return;
+        return say::truth(out, subst::is_closed(base, work, names, top, vs, ps, t));
     }
     let r = collected(base, work, names, op, top, left, vs, ps, t);
-    cases::say::text(b"free");
-    cases::say::all(base, work, names, r.list);
+    cases::say::text(out, b"free")?;
+    cases::say::all(out, base, work, names, r.list)
 }
 
 // The same, if the words are what it asks.
-fn tested(
+fn tested<W: Write>(
+    out: &mut W,
     base: &[u64],
     work: &mut [u64],
     names: &[u64],
@@ -190,20 +192,21 @@ fn tested(
     v: usize,
     left: usize,
     vs: usize,
-)
+) -> io::Result<()>
     requires base_len { length base.now ≡ 0 }
     requires left_bound { left ≤ 1000 }
 {
     if cases::rows::are_distinct(names) {
         if is_scheme(base, work, TOP, left, vs, PREDS, TYPE) {
-            run(base, work, names, op, v, TOP, left, vs, PREDS, TYPE);
-            cases::say::text(b"\n");
+            run(out, base, work, names, op, v, TOP, left, vs, PREDS, TYPE)?;
+            cases::say::text(out, b"\n")?;
         }
     }
+    Ok(())
 }
 
 // One line. The names are Eq, Int, Pair, a, b and c.
-fn case(op: usize, v: usize, left: usize, vs: usize)
+fn case<W: Write>(out: &mut W, op: usize, v: usize, left: usize, vs: usize) -> io::Result<()>
     requires { left ≤ 1000 }
 {
     let base = [0u64; 0];
@@ -235,21 +238,21 @@ fn case(op: usize, v: usize, left: usize, vs: usize)
         0u64,
     ];
     build(&base, &mut work);
-    tested(&base, &mut work, &names, op, v, left, vs);
+    tested(out, &base, &mut work, &names, op, v, left, vs)
 }
 
 // The free variables of type, predicates, both, the scheme, and the scheme that binds all; whether the two schemes are closed;
 // Int for the free b, for the bound a, and for b with one step too few; and for b in the closed scheme without a step.
-pub fn lines() {
-    case(0, B, 8, SOME);
-    case(1, B, 8, SOME);
-    case(2, B, 8, SOME);
-    case(3, B, 8, SOME);
-    case(3, B, 8, ALL);
-    case(4, B, 8, SOME);
-    case(4, B, 8, ALL);
-    case(5, B, 8, SOME);
-    case(5, A, 8, SOME);
-    case(5, B, 4, SOME);
-    case(5, B, 0, ALL);
+pub fn lines<W: Write>(out: &mut W) -> io::Result<()> {
+    case(out, 0, B, 8, SOME)?;
+    case(out, 1, B, 8, SOME)?;
+    case(out, 2, B, 8, SOME)?;
+    case(out, 3, B, 8, SOME)?;
+    case(out, 3, B, 8, ALL)?;
+    case(out, 4, B, 8, SOME)?;
+    case(out, 4, B, 8, ALL)?;
+    case(out, 5, B, 8, SOME)?;
+    case(out, 5, A, 8, SOME)?;
+    case(out, 5, B, 4, SOME)?;
+    case(out, 5, B, 0, ALL)
 }
