@@ -26,10 +26,9 @@ def unfoldables(path):
 
 HEAD = """-- Sessions as the reference prints them: each line with the steps spent, the kept nodes and both counters after it.
 -- To unfold `everything` is to unfold each definition that a session runs through. (Written by tools/opened.py.)
-use mathlib.Core.Path.{_≡_}
-use mathlib.Core.List.{List, [], _∷_}
-use Prim.Native.Nat.{ℕ, suc, zero}
-use native.Mathlib.Decide.{ℕ-discrete, decLt}
+use mathlib.Core.List.{List, [], ◌∷◌}
+use Prim.Native.Nat.{ℕ, suc}
+use native.Mathlib.Decide.{ℕ_discrete, dec_lt}
 """
 
 BODY = """
@@ -39,16 +38,16 @@ unfolding {all}
 everything = tt
 
 -- A declaration's line, then ` | steps kept t-counter d-counter`.
-unfoldable pub metered-lines : ℕ → List Answer → Text
-metered-lines k [] cs = cs
-metered-lines k (a ∷ rest) cs =
-    show-nat k (quoted " " (show-result (a .result) (quoted " | " (show-nat (a .spent) (quoted " " (show-nat (kept (a .checker)) (quoted " "
-    (show-nat (a .checker .state .tv-counter) (quoted " " (show-nat (a .checker .state .dv-counter) (quoted "\\n" (metered-lines (suc k) rest cs))))))))))))
+unfoldable pub metered_lines : ℕ → List Answer → Text
+metered_lines k [] cs = cs
+metered_lines k (a ∷ rest) cs =
+    show_nat k (quoted " " (show_result a.result (quoted " | " (show_nat a.spent (quoted " " (show_nat (kept a.checker) (quoted " "
+    (show_nat a.checker.state.tv_counter (quoted " " (show_nat a.checker.state.dv_counter (quoted "\\n" (metered_lines (suc k) rest cs))))))))))))
 
 -- A whole session with the meters of each declaration.
 unfoldable pub metered : (budget work binders : ℕ) → List Decl → List ℕ
-unfolding metered-lines everything
-metered budget work binders ks = quoted "declarations " (show-nat (count ks) (quoted "\\n" (metered-lines 0 (session budget work binders ks new) [])))
+unfolding metered_lines everything
+metered budget work binders ks = quoted "declarations " (show_nat (count ks) (quoted "\\n" (metered_lines 0 (session budget work binders ks new) [])))
 
 -- What the listing program prints of declarations.
 unfoldable pub lined : List Decl → List ℕ
@@ -64,7 +63,7 @@ said s = quoted s []
 
 def main():
     text, everything = HEAD, []
-    extra = {"Ast": ["Decl"], "Session": ["Answer", "Checker"], "Infer": ["State"], "Text": ["Text"], "Listing": [], "Base": []}
+    extra = {"Ast": ["Decl"], "Session": ["Answer"], "Text": ["Text"]}
     for path in sorted(glob.glob(SPECS + "/*.antt")):
         module = os.path.basename(path)[:-5]
         if module in STATEMENTS:
@@ -72,9 +71,9 @@ def main():
         names = unfoldables(path)
         everything += names
         if names + extra.get(module, []):
-            text += f"use Rattle·meaning·specs.specs.{module}.{{{', '.join(extra.get(module, []) + names)}}}\n"
+            text += f"use Rattle.meaning.specs.{module}.{{{', '.join(extra.get(module, []) + names)}}}\n"
     text += "use Prim.Native.String.{String}\n"
-    text += BODY.replace("{all}", " ".join(everything) + " ℕ-discrete decLt")
+    text += BODY.replace("{all}", " ".join(everything) + " ℕ_discrete dec_lt")
     with open(os.path.join(ROOT, "crates/meaning/proofs/Metered.antt"), "w", encoding="utf-8") as f:
         f.write(text)
 

@@ -8,12 +8,12 @@ its refusals is another definition's work."""
 import os, re, struct, sys
 
 HEAD = """-- Recorded sessions, computed: text, steps, kept nodes and both counters. (tools/session_test.py)
-use mathlib.Core.Path.{_≡_, refl}
+use mathlib.Core.Path.{◌≡◌, refl}
 use mathlib.Core.Bool.{true, false}
-use mathlib.Core.List.{List, [], _∷_}
-use Rattle·meaning.specs.Ast.{Ty, arrow, Expr, eint, ebool, eapp, Decl, nil, _◂_}
-use Rattle·meaning.proofs.Metered.{everything, metered, said}
-use Rattle·meaning.proofs.Written.{v, c, ev, lam, bind, class, instance, define, check, at, sig, body}
+use mathlib.Core.List.{List, [], ◌∷◌}
+use Rattle.meaning.specs.Ast.{Ty, arrow, Expr, eint, ebool, eapp, Decl, nil, ◌◂◌}
+use Rattle.meaning.proofs.Metered.{everything, metered, said}
+use Rattle.meaning.proofs.Written.{v, c, ev, lam, bind, class, instance, define, check, at, sig, body}
 """
 
 
@@ -98,14 +98,14 @@ def declarations(data):
 
 
 def test(path, budget="512", work="65536", binders="512"):
-    tag = re.sub(r"[^A-Za-z0-9]+", "-", os.path.basename(path)[:-4])
+    tag = re.sub(r"[^A-Za-z0-9]+", "_", os.path.basename(path)[:-4])
     with open(path, "rb") as f:
         body = "\n    ∷ ".join(declarations(f.read()) + ["[]"])
     with open(path[:-4] + ".out", encoding="utf-8") as f:
         expected = f.read().replace("\n", "\\n")
     return (f"\nabbrev {tag} : List Decl\n{tag} =\n    {body}\n"
-            f"\n{tag}-computed : metered {budget} {work} {binders} {tag} ≡ said \"{expected}\"\n"
-            f"unfolding everything metered said\n{tag}-computed = refl\n")
+            f"\n{tag}_computed : metered {budget} {work} {binders} {tag} ≡ said \"{expected}\"\n"
+            f"unfolding everything metered said\n{tag}_computed = refl\n")
 
 
 def write_all():

@@ -3,7 +3,7 @@ use mathlib.Core.Path.{◌≡◌, refl, ap, ap₂, sym, ◌∙◌, subst}
 use mathlib.Core.Bool.{Bool, true, false, true≢false, false≢true}
 use mathlib.Core.List.{List, [], ◌∷◌, ◌++◌}
 use mathlib.Core.Logic.{◌≢◌}
-use Prim.Native.Nat.{suc, ◌+◌}
+use Prim.Native.Nat.{suc}
 use Rattle.meaning.specs.Base.{is_yes, if, count}
 use Rattle.meaning.specs.Ast.{TyVar, same_tyvar, tyvar_before}
 use Rattle.meaning.specs.Map.{tyvars, elem}
@@ -143,7 +143,7 @@ ends_with (u ∷ us) x r e h = go (same_tyvar x u) (λ a b. ends_with us x r.1 a
     }
       where
         cover : (v : TyVar) → elem tyvars v (u ∷ us) ≡ true → tyvar_before v x ≡ true → Dec (v ≡ u) → elem tyvars v (u ∷ G.front) ≡ true
-        cover v i b (yes j) = rw j (elem_head u G.front)
+        cover v i b (yes j) = subst (λ (y : TyVar). elem tyvars y (u ∷ G.front) ≡ true) (sym j) (elem_head u G.front)
         cover v i b (no j) = elem_all v u G.front (G.covers v (sym (elem_rest v u us j) ∙ i) b)
 
     alone : (ws : List TyVar) → x ≡ u → InBytes (u ∷ ws) → ((v : TyVar) → elem tyvars v (u ∷ ws) ≡ true → tyvar_before x v ≡ false) → Ends (u ∷ ws) x

@@ -1,4 +1,6 @@
 // Canonical names of 000: which variables of a type get the letters, and the new names in byte order.
+#![tactic(auto)]
+
 ghost use Rattle.std.specs.Prelude.{◌++◌, ◌<◌, ◌≤◌, length};
 ghost use Rattle.meaning.specs.Ast.{var};
 ghost use Rattle.meaning.specs.Subst.{occurs, occurs_in};

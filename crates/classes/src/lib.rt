@@ -1,4 +1,6 @@
 // The class environment of 001 over words: a class and an instance are added, and a method is looked up.
+#![tactic(auto)]
+
 ghost use Rattle.std.specs.Prelude.{◌≡◌, ◌++◌, ◌+◌, ◌*◌, ◌<◌, ◌≤◌, length};
 ghost use Rattle.meaning.specs.Ast.{pred};
 ghost use Rattle.names.specs.Names.{name_of};

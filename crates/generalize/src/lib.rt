@@ -1,4 +1,6 @@
 // `generalize_binding` and `finalize_expr` of 000 over words: pending rows are settled, and what is left gets canonical names.
+#![tactic(auto)]
+
 pub mod clear;
 pub mod naming;
 

@@ -1,4 +1,6 @@
 // What inference answers, and the ends of `infer_abs`, `infer_app` and `infer_let` of 000 once their parts are inferred.
+#![tactic(auto)]
+
 ghost use Rattle.std.specs.Prelude.{◌≡◌, [], ◌++◌, ◌+◌, ◌*◌, ◌-◌, ◌≤◌, length};
 ghost use Rattle.meaning.specs.Ast.{int, bool, cint, cbool};
 ghost use Rattle.meaning.specs.Budget.{done};

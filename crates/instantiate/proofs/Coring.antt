@@ -10,7 +10,7 @@ use Rattle.meaning.specs.Ast.{Name, method, Ty, Binder, cvar, cdict, dict_app, d
 use Rattle.meaning.specs.Errors as E
 use Rattle.meaning.specs.Budget.{done, refused, after, or_refuse}
 use Rattle.meaning.specs.Generalize.{Pending}
-use Rattle.meaning.specs.Classes.{ClassEnv, ClassInfo}
+use Rattle.meaning.specs.Classes.{ClassInfo}
 use Rattle.meaning.specs.Infer.{args_of, plain_core, var_core}
 use Rattle.names.specs.Names.{first_fresh, first_node, name_of}
 use Rattle.names.proofs.Where.{is_named}
@@ -23,11 +23,11 @@ use Rattle.cores.proofs.TermLaws.{core_of, dict_core}
 use Rattle.cores.proofs.NewTerm.{four_stands, push_selected, push_applied}
 use Rattle.supers.specs.Rows.{binders_from, binders_in}
 use Rattle.supers.proofs.RowLaws.{row_pending}
-use Rattle.classes.specs.Method.{Methods, LooksUp}
+use Rattle.classes.specs.Method.{LooksUp}
 use Rattle.classes.specs.declared.Method.{Method}
 use Rattle.classes.specs.declared.Method.TheVariants.{Of, Nothing as No-method}
 use Rattle.simplify.proofs.RowSets.{row_words}
-use Rattle.instantiate.specs.Looks.{FindsFirst, ReadyCore, Lists, GivesCored, NamesRight}
+use Rattle.instantiate.specs.Looks.{FindsFirst, ReadyCore, Lists, GivesCored}
 use Rattle.instantiate.specs.declared.term.Sought.{Sought}
 use Rattle.instantiate.specs.declared.term.Sought.TheVariants.{At, Nothing}
 use Rattle.instantiate.specs.declared.term.Cored.TheVariants.{Done as Made, Nothing as Unmade}

@@ -1,5 +1,7 @@
 // `instantiate` and `infer_var` of 000 over words: a scheme's type and predicates over made variables, a row for each
 // predicate, and the term that uses them.
+#![tactic(auto)]
+
 mod term;
 
 ghost use Rattle.std.specs.Prelude.{◌≡◌, ◌++◌, ◌+◌, ◌*◌, ◌<◌, ◌≤◌, length};

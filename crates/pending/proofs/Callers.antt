@@ -6,12 +6,11 @@ use mathlib.Core.Option.{none}
 use Prim.Native.Nat.{ℕ, zero, suc, ◌+◌, ◌*◌, ◌-◌, ◌<◌, ◌≤◌}
 use native.Mathlib.Omega.{arith}
 use lib.ListN.{length}
-use Rattle.meaning.specs.Base.{if}
 use Rattle.meaning.specs.Ast.{TyVar, dvar, pred, Binder}
 use Rattle.meaning.specs.Map.{dicts, get}
 use Rattle.theorems.proofs.Maps.{get_cons_other}
-use Rattle.names.specs.Names.{first_fresh, first_node, name_of}
-use Rattle.ast.specs.Table.{tree, Table, Node}
+use Rattle.names.specs.Names.{first_fresh, name_of}
+use Rattle.ast.specs.Table.{tree, Table}
 use Rattle.ast.proofs.Laws.{node_more}
 use Rattle.supers.specs.Rows.{row_at, with_row, binders_from, binders_in, HasWord, TypeIn, Binders}
 use Rattle.supers.specs.declared.rows.Row.{Row}
@@ -19,7 +18,7 @@ use Rattle.supers.specs.declared.rows.Row.TheVariants.{Pending, Replaced}
 use Rattle.reduce.specs.Reduces.{Became}
 use Rattle.terms.specs.Rows.{TermIn}
 use Rattle.pending.specs.Rows.{PendingRow, PendingRows, number_of, NumbersApart}
-use Rattle.pending.specs.Owned.{owns, IsPending, Among, Aliased, GivesAliased, GivesDeferred}
+use Rattle.pending.specs.Owned.{owns, IsPending, Aliased, GivesAliased, GivesDeferred}
 use Rattle.pending.proofs.Aliases.{pick_small}
 use Rattle.pending.proofs.Fills.{Distinct}
 

@@ -12,7 +12,7 @@ use Rattle.meaning.specs.Ast.{TyVar, DictName, dvar, pred, Core, Binder}
 use Rattle.meaning.specs.Map.{Map}
 use Rattle.names.specs.Names.{name_of}
 use Rattle.ast.specs.Table.{tree, Node}
-use Rattle.supers.specs.Rows.{row_at, with_row, binders_from, binders_in, HasWord, TypeIn, Binders}
+use Rattle.supers.specs.Rows.{row_at, with_row, binders_from, binders_in, HasWord, TypeIn}
 use Rattle.supers.specs.declared.rows.Row.{Row}
 use Rattle.supers.specs.declared.rows.Row.TheVariants.{Pending, Replaced}
 use Rattle.supers.proofs.RowLaws.{rows_end}

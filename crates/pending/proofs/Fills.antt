@@ -67,7 +67,7 @@ fill_present {p} f d (b ∷ bs) m D e = go (same_dict d b.0) (fill_present f d b
 
     go : Dec (d ≡ b.0) → (get dicts d bs ≡ some p → get dicts d (fill_cores_by f bs (put_term b (f b) m)) ≡ or_else (f (d, p)) (get dicts d (put_term b (f b) m))) → get dicts d (fill_cores_by f bs (put_term b (f b) m)) ≡ or_else (f (d, p)) (get dicts d m)
     go (yes k) ih =
-        let u : get dicts d (b ∷ bs) ≡ some b.1 = rw k (get_cons_same dicts b.0 b.1 bs) in
+        let u : get dicts d (b ∷ bs) ≡ some b.1 = ap (λ x. get dicts x (b ∷ bs)) k ∙ get_cons_same dicts b.0 b.1 bs in
         let v : p ≡ b.1 = cc in
         here d p k v (rw k D.0)
     go (no n) ih = ih (sym (get_cons_other dicts d b.0 b.1 bs n) ∙ e) ∙ rw (put_other d b (f b) m n) refl

@@ -7,7 +7,7 @@ use Prim.Native.Nat.{ℕ}
 use native.Mathlib.Omega.{arith}
 use Rattle.meaning.specs.Base.{if, is_yes, any, first}
 use Rattle.meaning.specs.Ast.{Pred, same_pred, Binder}
-use Rattle.pending.specs.Owned.{first_of, holds, add_first, firsts_from, firsts}
+use Rattle.pending.specs.Owned.{first_of, holds, add_first, firsts_from}
 
 -- ## Tests
 

@@ -6,7 +6,6 @@ use native.Mathlib.Omega.{arith}
 use native.Mathlib.Decide.{ℕ_discrete}
 use lib.ListN.{length, get_or}
 use Rattle.meaning.specs.Ast.{Binder}
-use Rattle.meaning.specs.Budget.{done}
 use Rattle.meaning.specs.Subst.{apply_preds_pending}
 use Rattle.ast.specs.Table.{Table}
 use Rattle.ast.proofs.Laws.{node_more}

@@ -1,33 +1,28 @@
 -- What the code's rows mean: after `reduce` and `alias_rows` they replace the names of a core as the definition's substitution does.
 use mathlib.Core.Path.{◌≡◌, refl, ap, sym, subst, ◌∙◌}
-use mathlib.Core.Bool.{Bool, true, false}
-use mathlib.Core.List.{List, [], ◌∷◌, ◌++◌}
+use mathlib.Core.Bool.{true, false}
+use mathlib.Core.List.{List, ◌∷◌}
 use mathlib.Core.Option.{Option, none, some}
-use Prim.Native.Nat.{ℕ, zero, suc, ◌+◌, ◌-◌, ◌<◌, ◌≤◌}
+use Prim.Native.Nat.{ℕ, zero, suc, ◌+◌, ◌<◌, ◌≤◌}
 use native.Mathlib.Omega.{arith}
 use native.Mathlib.Decide.{ℕ_discrete}
-use Rattle.meaning.specs.Base.{if, is_yes, keep}
-use Rattle.meaning.specs.Ast.{TyVar, DictName, dvar, same_dict, Pred, pred, same_pred, Core, cdict, Binder}
+use Rattle.meaning.specs.Base.{if, is_yes}
+use Rattle.meaning.specs.Ast.{DictName, dvar, same_dict, Pred, pred, same_pred, Core, cdict, Binder}
 use Rattle.meaning.specs.Map.{Map, dicts, get}
-use Rattle.meaning.specs.Reduce.{Discharged, is_head_normal}
+use Rattle.meaning.specs.Reduce.{is_head_normal}
 use Rattle.meaning.specs.Cores.{or_core}
-use Rattle.meaning.specs.Generalize.{fill_discharged, fill_aliases, binders_of, is_own}
 use Rattle.theorems.proofs.Maps.{get_cons_same, get_cons_other}
-use Rattle.names.specs.Names.{first_fresh, name_of}
-use Rattle.ast.specs.Table.{tree, Kept}
-use Rattle.ast.proofs.Laws.{kept_tree}
+use Rattle.names.specs.Names.{name_of}
+use Rattle.ast.specs.Table.{tree}
 use Rattle.cores.specs.Terms.{core}
-use Rattle.cores.proofs.TermLaws.{dict_core}
-use Rattle.supers.specs.Rows.{row_at, with_row, binders_from, binders_in, TypeIn}
+use Rattle.supers.specs.Rows.{row_at, with_row, binders_from}
 use Rattle.supers.specs.declared.rows.Row.{Row}
 use Rattle.supers.specs.declared.rows.Row.TheVariants.{Pending, Replaced}
-use Rattle.supers.proofs.RowLaws.{kept_rows}
-use Rattle.reduce.specs.Reduces.{add_discharged, discharged_in, residuals_in, Became}
+use Rattle.reduce.specs.Reduces.{add_discharged, discharged_in}
 use Rattle.terms.specs.Rows.{with_replaced, replaced_from}
-use Rattle.pending.specs.Owned.{first_of, firsts, owns, own_binder, IsPending, Aliased, GivesAliased}
-use Rattle.pending.proofs.Firsts.{yes_is, no_is, first_of_firsts}
-use Rattle.pending.proofs.Residuals.{All, AtVariable, StaysAs, waits_at_variable, first_kept, first_dropped, firsts_apart, keep_apart, left_rows, found_binders, found_variables, keep_own}
-use Rattle.pending.proofs.Fills.{Distinct, or_else, equal_to, discharged_as, aliased_as, filled_present, filled_absent, alias_none, alias_some, discharged_last}
+use Rattle.pending.proofs.Firsts.{no_is}
+use Rattle.pending.proofs.Residuals.{StaysAs}
+use Rattle.pending.proofs.Fills.{Distinct, or_else, discharged_as, discharged_last}
 
 -- ## Rows that replace names, beside the binders that they were
 

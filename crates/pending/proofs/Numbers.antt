@@ -1,7 +1,7 @@
 -- The numbers of rows that move.
 use mathlib.Core.Path.{◌≡◌, refl, ap, sym, ◌∙◌}
 use mathlib.Core.List.{List}
-use Prim.Native.Nat.{ℕ, suc, ◌+◌, ◌*◌, ◌-◌, ◌<◌, ◌≤◌}
+use Prim.Native.Nat.{ℕ, suc, ◌-◌, ◌<◌, ◌≤◌}
 use native.Mathlib.Omega.{arith}
 use native.Mathlib.Decide.{ℕ_discrete, dec_lt}
 use Rattle.supers.specs.Rows.{row_at}
@@ -16,23 +16,23 @@ data Was (a i : ℕ) : ℕ → ℕ → Type 0 where
   behind : {j : ℕ} → i < j → Was a i j j
 
 -- No two came from one.
-was_one : {a i j k o : ℕ} → a ≤ i → Was a i j o → Was a i k o → j ≡ k
-was_one h (before p) (before q) = refl
-was_one h (before p) moved = absurd (omega arith)
-was_one h (before p) (up q r) = absurd (omega arith)
-was_one h (before p) (behind q) = refl
-was_one h moved (before q) = absurd (omega arith)
-was_one h moved moved = refl
-was_one h moved (up q r) = absurd (omega arith)
-was_one h moved (behind q) = absurd (omega arith)
-was_one h (up p x) (before q) = absurd (omega arith)
-was_one h (up p x) moved = absurd (omega arith)
-was_one h (up p x) (up q r) = refl
-was_one h (up p x) (behind q) = absurd (omega arith)
-was_one h (behind p) (before q) = refl
-was_one h (behind p) moved = absurd (omega arith)
-was_one h (behind p) (up q r) = absurd (omega arith)
-was_one h (behind p) (behind q) = refl
+was_one : {a i j k o o' : ℕ} → a ≤ i → o ≡ o' → Was a i j o → Was a i k o' → j ≡ k
+was_one h e (before p) (before q) = e
+was_one h e (before p) moved = absurd (omega arith)
+was_one h e (before p) (up q r) = absurd (omega arith)
+was_one h e (before p) (behind q) = e
+was_one h e moved (before q) = absurd (omega arith)
+was_one h e moved moved = refl
+was_one h e moved (up q r) = absurd (omega arith)
+was_one h e moved (behind q) = absurd (omega arith)
+was_one h e (up p x) (before q) = absurd (omega arith)
+was_one h e (up p x) moved = absurd (omega arith)
+was_one h e (up p x) (up q r) = ap suc e
+was_one h e (up p x) (behind q) = absurd (omega arith)
+was_one h e (behind p) (before q) = e
+was_one h e (behind p) moved = absurd (omega arith)
+was_one h e (behind p) (up q r) = absurd (omega arith)
+was_one h e (behind p) (behind q) = e
 
 -- Where a row was, with what it says.
 record Came (bs bs₁ : List ℕ) (a i n j : ℕ) : Type 0 where
@@ -57,7 +57,7 @@ module _ {bs bs₁ : List ℕ} {a i n : ℕ} (R : Rotated bs bs₁ a i) (less : 
   rotated_numbers N = record { apart = λ j k p q e. go j k e (came j p (dec_lt j a) (ℕ_discrete j a) (dec_lt i j)) (came k q (dec_lt k a) (ℕ_discrete k a) (dec_lt i k)) }
     where
       one : {j k o o' : ℕ} → Was a i j o → Was a i k o' → o ≡ o' → j ≡ k
-      one {j} {k} {o} {o'} x y e = was_one less x (rw e y)
+      one {j} {k} {o} {o'} x y e = was_one less e x y
 
       go : (j k : ℕ) → number_of (row_at bs₁ j) ≡ number_of (row_at bs₁ k) → Came bs bs₁ a i n j → Came bs bs₁ a i n k → j ≡ k
       go j k e c d = one c.was d.was (N.apart c.old d.old c.below d.below (sym (ap number_of c.is) ∙ e ∙ ap number_of d.is))

@@ -6,7 +6,7 @@ use mathlib.Core.Option.{none, some}
 use Prim.Native.Nat.{ℕ, ◌+◌, ◌<◌, ◌≤◌}
 use native.Mathlib.Omega.{arith}
 use Rattle.meaning.specs.Base.{is_yes}
-use Rattle.meaning.specs.Ast.{TyVar, dvar, Ty, var, arrow, Pred, pred, same_ty}
+use Rattle.meaning.specs.Ast.{TyVar, dvar, Ty, var, Pred, pred, same_ty}
 use Rattle.meaning.specs.Map.{tyvars, elem}
 use Rattle.meaning.specs.Subst.{ftv_type, occurs}
 use Rattle.names.specs.Names.{Names, name_of, tyvar_of}

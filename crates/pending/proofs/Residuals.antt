@@ -1,11 +1,11 @@
 -- `binders_of`: of the rows that `reduce` left, those that are the first of their predicates.
 use mathlib.Core.Path.{◌≡◌, refl, ap, sym, ◌∙◌}
 use mathlib.Core.Bool.{Bool, true, false, not, ◌||◌}
-use mathlib.Core.List.{List, [], ◌∷◌, ◌++◌, map, append-nil}
+use mathlib.Core.List.{List, [], ◌∷◌, ◌++◌}
 use mathlib.Core.Option.{Option, none, some}
 use Prim.Native.Nat.{ℕ, zero, suc, ◌+◌, ◌-◌, ◌<◌, ◌≤◌}
 use native.Mathlib.Omega.{arith}
-use Rattle.meaning.specs.Base.{if, is_yes, any, keep, first}
+use Rattle.meaning.specs.Base.{if, is_yes, any, keep}
 use Rattle.meaning.specs.Ast.{TyVar, Ty, var, con, arrow, Pred, pred, same_pred, dvar, Binder}
 use Rattle.meaning.specs.Map.{tyvars, elem}
 use Rattle.meaning.specs.Subst.{ftv_type, add}
@@ -19,7 +19,7 @@ use Rattle.supers.specs.declared.rows.Row.TheVariants.{Pending, Replaced}
 use Rattle.reduce.specs.Reduces.{add_residual, residuals_in, Became}
 use Rattle.pending.specs.Owned.{first_of, holds, add_first, firsts_from, firsts, owns, own_binder}
 use Rattle.pending.proofs.Loops.{binders_snoc}
-use Rattle.pending.proofs.Firsts.{yes_is, no_is, first_here, first_there, first_none, first_left, first_right, none_holds, some_holds, add_known, add-new, firsts_then, first_of_firsts}
+use Rattle.pending.proofs.Firsts.{first_here, first_there, first_none, first_right, none_holds, some_holds, add_known, add-new, firsts_then, first_of_firsts}
 
 -- ## Lists of which something holds
 

@@ -1,7 +1,7 @@
 -- `apply_preds_pending` over lists that are put together, and the ways out of `apply_row`.
 use mathlib.Core.Path.{◌≡◌, refl, ap, sym, ◌∙◌}
 use mathlib.Core.List.{List, [], ◌∷◌, ◌++◌, append_assoc}
-use Prim.Native.Nat.{ℕ, suc, ◌+◌, ◌*◌, ◌-◌, ◌<◌, ◌≤◌}
+use Prim.Native.Nat.{ℕ, suc, ◌+◌, ◌*◌, ◌-◌}
 use native.Mathlib.Omega.{arith}
 use native.Mathlib.Decide.{ℕ_discrete}
 use Rattle.meaning.specs.Base.{if, eqb, is_yes}
@@ -23,7 +23,7 @@ use Rattle.supers.specs.declared.rows.Row.TheVariants.{Pending, Replaced}
 use Rattle.supers.proofs.RowLaws.{row_open, row_step, rows_end}
 use Rattle.pending.specs.declared.Swept.TheVariants.{Done, Refused}
 use Rattle.pending.specs.Rows.{put_row}
-use Rattle.pending.specs.Swept.{ReadySweep, Retyped, GivesSwept}
+use Rattle.pending.specs.Swept.{ReadySweep, GivesSwept}
 use Rattle.pending.proofs.Puts.{put_here, put_before, put_behind}
 
 -- ## Lists that are put together

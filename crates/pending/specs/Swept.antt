@@ -1,7 +1,6 @@
 -- What applying a substitution to the types of rows asks of the words and gives.
-use Rattle.std.specs.Prelude.{◌≡◌, List, ℕ, suc, ◌+◌, ◌*◌, ◌<◌, ◌≤◌, length, get_or}
-use Rattle.meaning.specs.Ast.{Binder}
-use Rattle.meaning.specs.Budget.{Out, done}
+use Rattle.std.specs.Prelude.{◌≡◌, List, ℕ, ◌+◌, ◌*◌, ◌<◌, ◌≤◌, length, get_or}
+use Rattle.meaning.specs.Budget.{done}
 use Rattle.meaning.specs.Subst.{apply_preds_pending}
 use Rattle.names.specs.Names.{Names}
 use Rattle.ast.specs.Table.{Table, Node}

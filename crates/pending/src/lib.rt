@@ -1,5 +1,7 @@
 // Pending predicates of inference, as rows of a lent slice: `apply_preds_pending`, and what `generalize_binding` does with those that
 // `reduce` left.
+#![tactic(auto)]
+
 ghost use Rattle.std.specs.Prelude.{◌≡◌, ◌++◌, ◌+◌, ◌*◌, ◌≤◌, length};
 ghost use Rattle.pending.specs.Rows.{put_row};
 ghost use Rattle.pending.specs.Swept.{ReadySweep, GivesSwept, GivesRows};

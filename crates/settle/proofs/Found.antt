@@ -13,7 +13,7 @@ use Rattle.meaning.specs.Generalize.{Pending, preds_of}
 use Rattle.theorems.proofs.Tests.{some_inj, none_some}
 use Rattle.theorems.proofs.Residuals.{firsts}
 use Rattle.theorems.proofs.FirstRows.{NoneBefore}
-use Rattle.pending.specs.Owned.{first_of, holds, add_first, firsts_from}
+use Rattle.pending.specs.Owned.{first_of, holds, firsts_from}
 use Rattle.pending.proofs.Firsts.{first_here, first_there, add_known, add-new}
 
 -- The binder's type is a variable.

@@ -11,7 +11,7 @@ use Rattle.meaning.specs.Errors.{Refusal}
 use Rattle.meaning.specs.Budget.{done, refused, after}
 use Rattle.meaning.specs.Subst.{ftv_type}
 use Rattle.meaning.specs.Classes.{ClassEnv}
-use Rattle.meaning.specs.Generalize.{env_ftv, is_own, generalize_binding, finalize_expr}
+use Rattle.meaning.specs.Generalize.{env_ftv, generalize_binding, finalize_expr}
 use Rattle.ast.specs.Table.{tree}
 use Rattle.scope.specs.Scope.{env_of}
 use Rattle.scope.proofs.Empties.{no_env}

@@ -3,7 +3,7 @@
 use Rattle.std.specs.Prelude.{Bool, not, List, []}
 use Rattle.meaning.specs.Base.{keep, first}
 use Rattle.meaning.specs.Ast.{Ty, Qual, qual, Scheme, Core, Binder}
-use Rattle.meaning.specs.Budget.{Steps, after, ◌>>=◌, pure}
+use Rattle.meaning.specs.Budget.{Steps, ◌>>=◌, pure}
 use Rattle.meaning.specs.Subst.{ftv_type, ftv_qual, without}
 use Rattle.meaning.specs.Classes.{ClassEnv}
 use Rattle.meaning.specs.Reduce.{reduce, simplify_context}

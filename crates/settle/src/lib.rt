@@ -1,5 +1,7 @@
 // The first half of `generalize_binding` and of `finalize_expr` of 000: pending predicates, which are rows of a lent slice, are
 // reduced and simplified, and their dictionaries replace names in the term.
+#![tactic(auto)]
+
 ghost use Rattle.std.specs.Prelude.{[], ◌++◌, ◌+◌, ◌*◌, ◌≤◌, length};
 ghost use Rattle.meaning.specs.Subst.{ftv_type};
 ghost use Rattle.meaning.specs.Generalize.{env_ftv};

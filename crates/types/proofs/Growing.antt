@@ -4,7 +4,7 @@ use mathlib.Core.List.{List, []}
 use Prim.Native.Nat.{ℕ, ◌+◌, ◌*◌, ◌-◌, ◌^◌, ◌<◌, ◌≤◌}
 use native.Mathlib.Omega.{arith}
 use lib.ListN.{length}
-use Rattle.meaning.specs.Ast.{con, arrow, size, sizes}
+use Rattle.meaning.specs.Ast.{con, size, sizes}
 use Rattle.names.specs.Names.{first_node, name_of}
 use Rattle.ast.specs.Table.{tree, list, pushed}
 use Rattle.ast.proofs.Laws.{node_more, kept_tree}

@@ -1,5 +1,7 @@
 // Types of a session file: counted as trees, and taken into the table of nodes. The file shares nodes, so that a tree
 // may be far larger than the file: counting stops at a limit.
+#![tactic(auto)]
+
 ghost use Rattle.std.specs.Prelude.{◌≡◌, List, ◌++◌, ℕ, ◌+◌, ◌*◌, ◌≤◌, length};
 ghost use Rattle.meaning.specs.Ast.{size, sizes};
 ghost use Rattle.ast.specs.Table.{tree, list};
