@@ -5,7 +5,7 @@ use Prim.Native.Nat.{ℕ, ◌+◌, ◌*◌, ◌-◌, ◌≤◌}
 use native.Mathlib.Omega.{arith}
 use lib.ListN.{length}
 use Rattle.meaning.specs.Ast.{Scheme, Core}
-use Rattle.meaning.specs.Budget.{Out, done, refused}
+use Rattle.meaning.specs.Budget.{Out, done}
 use Rattle.meaning.specs.Classes.{ClassEnv}
 use Rattle.meaning.specs.Generalize.{Pending}
 use Rattle.meaning.specs.Infer as M

@@ -5,7 +5,7 @@ use Prim.Native.Nat.{ℕ, ◌*◌, ◌-◌, ◌≤◌}
 use native.Mathlib.Omega.{arith}
 use lib.ListN.{length}
 use Rattle.meaning.specs.Ast.{Scheme, Core}
-use Rattle.meaning.specs.Budget.{Out, done, refused, after}
+use Rattle.meaning.specs.Budget.{Out, done, after}
 use Rattle.meaning.specs.Subst.{apply_preds_pending}
 use Rattle.meaning.specs.Classes.{ClassEnv}
 use Rattle.meaning.specs.Generalize.{Pending, generalize_binding}

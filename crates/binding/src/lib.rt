@@ -1,4 +1,6 @@
 // What `infer_let` of 000 does between its two inferences: `apply_env`, `apply_preds_pending` and `generalize_binding`.
+#![tactic(auto)]
+
 ghost use Rattle.std.specs.Prelude.{◌++◌, ◌*◌, ◌≤◌, length};
 ghost use Rattle.inferred.specs.Parts.{let_general};
 ghost use Rattle.inferred.specs.Closing.{answer_of};
