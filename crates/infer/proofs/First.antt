@@ -1,22 +1,20 @@
 -- A new session meets what inference asks and what its promises suppose: no classes, the primitives, both counters at zero.
 use mathlib.Core.Path.{◌≡◌, refl, sym, subst}
 use mathlib.Core.List.{List, []}
-use mathlib.Core.Option.{Option, none, some}
+use mathlib.Core.Option.{none, some}
 use Prim.Native.Nat.{ℕ, ◌+◌, ◌*◌, ◌<◌, ◌≤◌}
 use native.Mathlib.Omega.{arith}
 use lib.ListN.{length, get_or}
 use Rattle.meaning.specs.Base.{nth, count}
 use Rattle.meaning.specs.Ast.{Expr}
 use Rattle.meaning.specs.Map.{get}
-use Rattle.meaning.specs.Classes.{ClassEnv, ClassInfo, InstanceInfo, no_classes}
-use Rattle.meaning.specs.Generalize.{Env}
+use Rattle.meaning.specs.Classes.{ClassInfo, InstanceInfo, no_classes}
 use Rattle.meaning.specs.Session.{primitives, new, at_first}
 use Rattle.theorems.proofs.Made.{MadeEnv}
 use Rattle.theorems.proofs.Renames.{reached_made}
 use Rattle.names.specs.Names.{Names}
 use Rattle.rows.specs.BuiltIns.{BuiltIns}
 use Rattle.ast.specs.Table.{Table}
-use Rattle.instances.specs.Accepted.{Instances, Heads}
 use Rattle.scope.specs.Scope.{Scope, env_of}
 use Rattle.classes.proofs.Empty.{empty_supers, empty_methods}
 use Rattle.exprs.specs.Exprs.{Written}

@@ -21,7 +21,6 @@ use Rattle.reduce.proofs.Marks.{row_same}
 use Rattle.pending.specs.Rows.{PendingRow, PendingRows}
 use Rattle.simplify.proofs.RowSets.{same_rows}
 use Rattle.inferred.specs.Inferring.{Still}
-use Rattle.inferred.specs.declared.Inferred.{Inferred}
 use Rattle.inferred.proofs.Ends.{row_later}
 use Rattle.binding.specs.General.{Fit}
 use Rattle.binding.proofs.AfterEnv.{says_done}

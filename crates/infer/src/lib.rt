@@ -1,4 +1,6 @@
 // `infer_expr` of 000: a dispatcher over the kinds of expressions; each kind is a module.
+#![tactic(auto)]
+
 mod calls;
 mod functions;
 mod inside;

@@ -3,7 +3,7 @@ use mathlib.Core.Path.{◌≡◌, refl}
 use mathlib.Core.List.{List, [], ◌∷◌}
 use mathlib.Core.Bool.{true, false}
 use Rattle.meaning.specs.Base.{null}
-use Rattle.meaning.specs.Ast.{TyVar, Name, letter, called, Ty, var, con, nil, ◌◂◌, Pred, pred, Core, qual, Scheme, forall, ctx, super, cdict, dict_proj, dict_rec, dict_app, cnil, ◌◃◌}
+use Rattle.meaning.specs.Ast.{TyVar, letter, called, Ty, var, con, nil, ◌◂◌, Pred, pred, Core, qual, Scheme, forall, ctx, super, cdict, dict_proj, dict_rec, dict_app, cnil, ◌◃◌}
 use Rattle.meaning.specs.Errors.{out_of_steps}
 use Rattle.meaning.specs.Budget.{done, refused}
 use Rattle.meaning.specs.Subst.{singleton, ftv_type, ftv_preds, ftv_qual, ftv_scheme, apply_scheme}

@@ -1,8 +1,8 @@
 -- Lists and types that were tested, and what a scheme that was tested is.
-use mathlib.Core.Path.{◌≡◌, sym, ap, ◌∙◌}
+use mathlib.Core.Path.{◌≡◌, ap}
 use mathlib.Core.Bool.{Bool, true, false}
 use mathlib.Core.List.{List, [], ◌∷◌}
-use Prim.Native.Nat.{ℕ, suc, ◌+◌, ◌*◌, ◌-◌, ◌<◌, ◌≤◌}
+use Prim.Native.Nat.{ℕ, suc, ◌*◌, ◌-◌, ◌<◌, ◌≤◌}
 use native.Mathlib.Omega.{arith}
 use lib.ListN.{length}
 use Rattle.meaning.specs.Base.{if, count}
@@ -10,7 +10,7 @@ use Rattle.meaning.specs.Ast.{TyVar, qual}
 use Rattle.meaning.specs.Map.{tyvars, elem}
 use Rattle.meaning.specs.Subst.{add, ftv_type, ftv_preds, ftv_qual, ftv_scheme}
 use Rattle.names.specs.Names.{Names, first_node, first_nullary}
-use Rattle.ast.specs.Table.{cell_of, shape_of, tree, list, Node, Kept}
+use Rattle.ast.specs.Table.{cell_of, shape_of, tree, Node, Kept}
 use Rattle.ast.specs.declared.Shape.{Shape}
 use Rattle.ast.specs.declared.Shape.TheVariants.{Con}
 use Rattle.ast.specs.declared.Cell.{Cell}
@@ -20,7 +20,7 @@ use Rattle.vars.specs.Vars.{vars_of_word}
 use Rattle.subst.specs.Made.{Single}
 use Rattle.subst.specs.Preds.{preds_of_word}
 use Rattle.subst.specs.Schemes.{scheme_of_word, ReadyScheme}
-use Rattle.free.specs.Free.{add_but, free_type, free_types, Wants}
+use Rattle.free.specs.Free.{add_but, free_type, Wants}
 use Rattle.free.proofs.Arms.{at_con, at_nil, at_cons, whole_type, whole_preds, scheme_is, qual_is, from_none}
 use Rattle.supers.specs.declared.Root.TheVariants.{Context}
 use Rattle.supers.specs.Rows.{row_at}

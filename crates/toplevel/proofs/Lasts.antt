@@ -5,7 +5,7 @@ use Prim.Native.Nat.{ℕ, ◌+◌, ◌*◌, ◌-◌, ◌<◌}
 use native.Mathlib.Omega.{arith}
 use lib.ListN.{length}
 use Rattle.meaning.specs.Ast.{Qual, Core, Expr}
-use Rattle.meaning.specs.Budget.{Out, done, refused, after}
+use Rattle.meaning.specs.Budget.{Out, done, after}
 use Rattle.meaning.specs.Map.{get}
 use Rattle.meaning.specs.Subst.{apply_type, apply_preds_pending}
 use Rattle.meaning.specs.Classes.{ClassEnv}

@@ -7,7 +7,6 @@ use lib.ListN.{length}
 use Rattle.meaning.specs.Budget.{done}
 use Rattle.meaning.specs.Subst.{apply_in}
 use Rattle.meaning.specs.Classes.{ClassEnv}
-use Rattle.meaning.specs.Infer as M
 use Rattle.theorems.proofs.Bound.{names_of, pending_names}
 use Rattle.theorems.proofs.Made.{MadeTy, MadePending, apply_made, pending_made}
 use Rattle.ast.specs.Table.{tree}

@@ -5,7 +5,7 @@ use Prim.Native.Nat.{ℕ, ◌+◌, ◌*◌, ◌-◌, ◌<◌, ◌≤◌}
 use native.Mathlib.Omega.{arith}
 use lib.ListN.{length}
 use Rattle.meaning.specs.Ast.{Expr}
-use Rattle.meaning.specs.Budget.{done, refused, after}
+use Rattle.meaning.specs.Budget.{done, after}
 use Rattle.meaning.specs.Subst.{apply_type, apply_preds_pending}
 use Rattle.meaning.specs.Classes.{ClassEnv}
 use Rattle.meaning.specs.Generalize.{generalize_binding}

@@ -1,8 +1,7 @@
 -- What a let and an expression at the top of a session ask of the words and give.
 use Rattle.std.specs.Prelude.{◌≡◌, List, ℕ, ◌+◌, ◌*◌, ◌<◌, ◌≤◌, length}
-use Rattle.meaning.specs.Ast.{Scheme, Qual, Core, Expr}
+use Rattle.meaning.specs.Ast.{Scheme, Qual, Core}
 use Rattle.meaning.specs.Budget.{Out, done}
-use Rattle.meaning.specs.Classes.{ClassEnv}
 use Rattle.meaning.specs.Infer as M
 use Rattle.names.specs.Names.{Names}
 use Rattle.ast.specs.Table.{Node}

@@ -1,4 +1,6 @@
 // `process_let_decl` of 000: an expression is inferred, generalized, and its scheme gets the row of a name.
+#![tactic(auto)]
+
 pub mod checks;
 
 ghost use Rattle.std.specs.Prelude.{◌++◌, ◌*◌, ◌<◌, ◌≤◌, length};
