@@ -9,7 +9,7 @@ ghost use Rattle.cases.specs.Typed.{TypedRows};
 
 use simplify::Simplified;
 use std::io;
-use std::io::{BufWriter, Write};
+use std::io::Write;
 
 // Writes what became of two rows.
 fn both<W: Write>(
@@ -103,8 +103,7 @@ fn case<W: Write>(out: &mut W, left: usize) -> io::Result<()>
 }
 
 fn main(rt: HostRuntime) -> io::Result<()> {
-    let mut out = BufWriter::new(rt.alloc(), rt.stdout())?;
+    let mut out = rt.stdout();
     case(&mut out, 2)?;
-    case(&mut out, 1)?;
-    out.flush()
+    case(&mut out, 1)
 }

@@ -35,7 +35,7 @@ ghost use Rattle.cases.specs.Posed.{Posed};
 
 use cases::{goals, input, nodes, rows};
 use std::io;
-use std::io::{BufWriter, Write};
+use std::io::Write;
 use supers::Root;
 
 // Resolves a goal of class c at t with 256 levels, or tests a head for overlap; all words for the stack.
@@ -269,7 +269,7 @@ fn replay<W: Write>(
 
 // Reads the file and replays it. There are words for some 16,000 steps.
 fn main(rt: HostRuntime) -> io::Result<()> {
-    let mut out = BufWriter::new(rt.alloc(), rt.stdout())?;
+    let mut out = rt.stdout();
     let mut file = [0u8; 163840];
     let n = input::fill(&mut rt.stdin(), &mut file)?;
     let mut names = [0u64; 2048];
@@ -285,6 +285,5 @@ fn main(rt: HostRuntime) -> io::Result<()> {
         &mut ids,
         &mut classes,
         &mut insts,
-    )?;
-    out.flush()
+    )
 }

@@ -7,7 +7,7 @@ ghost use Rattle.std.specs.Prelude.{◌<◌, ◌≤◌, length, IfOk};
 use body::Reading;
 use errors::Refusal;
 use std::io;
-use std::io::{BufWriter, Read, Write};
+use std::io::{Read, Write};
 
 // A byte as a number.
 fn wide(x: u8) -> usize
@@ -128,10 +128,9 @@ fn all<R: Read, W: Write>(
 
 // The table and the index are lent to all files in turn, and keep what the file before left in them.
 fn main(rt: HostRuntime) -> io::Result<()> {
-    let mut out = BufWriter::new(rt.alloc(), rt.stdout())?;
+    let mut out = rt.stdout();
     let mut buf = [0u8; 65600];
     let mut names = [0u64; 4236];
     let mut index = [0u64; 11776];
-    all(&mut rt.stdin(), &mut out, &mut buf, &mut names, &mut index)?;
-    out.flush()
+    all(&mut rt.stdin(), &mut out, &mut buf, &mut names, &mut index)
 }

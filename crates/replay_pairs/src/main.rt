@@ -40,7 +40,7 @@ ghost use Rattle.cases.specs.Tested.{Fits};
 use apply::Applied;
 use cases::{input, nodes, ready, rows};
 use std::io;
-use std::io::{BufWriter, Write};
+use std::io::Write;
 
 // Unifies or matches two types, with 256 levels, and all words for the stack.
 fn run(
@@ -205,12 +205,11 @@ fn replay<W: Write>(
 
 // Reads the file and replays it. There are words for 65,536 steps, which `unify` takes at 256 levels of `List`.
 fn main(rt: HostRuntime) -> io::Result<()> {
-    let mut out = BufWriter::new(rt.alloc(), rt.stdout())?;
+    let mut out = rt.stdout();
     let mut file = [0u8; 163840];
     let n = input::fill(&mut rt.stdin(), &mut file)?;
     let mut names = [0u64; 1024];
     let mut work = [0u64; 540672];
     let mut ids = [0u64; 1024];
-    replay(&mut out, &file[..n], &mut names, &mut work, &mut ids)?;
-    out.flush()
+    replay(&mut out, &file[..n], &mut names, &mut work, &mut ids)
 }

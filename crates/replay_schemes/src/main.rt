@@ -8,11 +8,10 @@ mod say;
 mod schemes;
 
 use std::io;
-use std::io::{BufWriter, Write};
+use std::io::Write;
 
 fn main(rt: HostRuntime) -> io::Result<()> {
-    let mut out = BufWriter::new(rt.alloc(), rt.stdout())?;
+    let mut out = rt.stdout();
     schemes::lines(&mut out)?;
-    reduced::lines(&mut out)?;
-    out.flush()
+    reduced::lines(&mut out)
 }
