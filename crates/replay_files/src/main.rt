@@ -2,9 +2,10 @@
 // a line for each.
 #![tactic(auto)]
 
-ghost use Rattle.std.specs.Prelude.{◌<◌, ◌≤◌, length, IfOk};
+ghost use Rattle.std.specs.Prelude.{◌<◌};
 
 use body::Reading;
+use cases::input::fill;
 use errors::Refusal;
 use std::io;
 use std::io::{Read, Write};
@@ -53,21 +54,6 @@ fn say<W: Write>(out: &mut W, r: Reading) -> io::Result<()> {
         }
     }
     out.write_all(b"\n")
-}
-
-// Reads until the buffer is full or the input ends; how many bytes it put at the buffer's start.
-fn fill<R: Read>(input: &mut R, buf: &mut [u8]) -> io::Result<usize>
-    ensures { IfOk result (λ n. n ≤ length buf.new) }
-{
-    let mut done: usize = 0;
-    while done < buf.len() {
-        let n = input.read(&mut buf[done..])?;
-        if n == 0 {
-            return Ok(done);
-        }
-        done += n;
-    }
-    Ok(done)
 }
 
 // The length of the next file; more than any file has where the input ends.
