@@ -15,11 +15,10 @@ use Rattle.ast.proofs.Laws.{low_node}
 use Rattle.vars.specs.Vars.{vars_of_word}
 use Rattle.vars.proofs.VarLaws.{low_vars}
 use Rattle.pairs.specs.Pairs.{sub_at, find_at}
-use Rattle.pairs.specs.declared.Found.{Found}
-use Rattle.pairs.specs.declared.Found.TheVariants.{At, Nothing}
 use Rattle.pairs.proofs.Looks as L
 use Rattle.apply.specs.Region.{sub_but, find_but, Ready, ReadyBut, Gives}
-use Rattle.apply.specs.declared.Applied.{Applied}
+use Rattle.apply.specs.Applied.{Applied}
+use Rattle.std.specs.Prelude.{Option as Maybe, Some, None}
 
 -- Without one variable.
 get-remove : (v x : TyVar) (s : Subst) → get tyvars x (remove tyvars v s) ≡ if (is_yes (same_tyvar x v)) none (get tyvars x s)
@@ -56,12 +55,12 @@ get-filtered x (v ∷ vs) s = get-filtered x vs (remove tyvars v s) ∙ rw (get-
 -- The ways out of `find_but`: q is what `has_var` returned.
 module _ (ns w : List ℕ) (vs at k x : ℕ) {q : Bool} (e : q ≡ elem tyvars (tyvar_of ns x) (vars_of_word ns w vs)) where
   -- The variable is one of the list.
-  pub found_none : q ≡ true → Nothing ≡ find_but ns w vs at k x
+  pub found_none : q ≡ true → None ≡ find_but ns w vs at k x
   unfolding find_but
   found_none i = rw (sym e ∙ i)
 
   -- It is not.
-  pub found_as : {f : Found} → q ≡ false → f ≡ find_at w at k x → f ≡ find_but ns w vs at k x
+  pub found_as : {f : Maybe ℕ} → q ≡ false → f ≡ find_at w at k x → f ≡ find_but ns w vs at k x
   unfolding find_but
   found_as i h = rw (sym e ∙ i) h
 
@@ -70,33 +69,33 @@ get_but : (ns : List ℕ) → Names ns → (w : List ℕ) (vs at k x : ℕ) → 
 unfolding find_but
 get_but ns N w vs at k x = get-filtered (tyvar_of ns x) (vars_of_word ns w vs) (sub_at ns w at k) ∙ go (elem tyvars (tyvar_of ns x) (vars_of_word ns w vs))
   where
-    go : (b : Bool) → if b none (get tyvars (tyvar_of ns x) (sub_at ns w at k)) ≡ L.type_of ns w (if b Nothing (find_at w at k x))
+    go : (b : Bool) → if b none (get tyvars (tyvar_of ns x) (sub_at ns w at k)) ≡ L.type_of ns w (if b None (find_at w at k x))
     go true = refl
     go false = L.get_is ns N w at k x
 
 -- A word that was found is that of a pair.
-found_pair : (ns w : List ℕ) (vs at k x m : ℕ) → find_but ns w vs at k x ≡ At m → find_at w at k x ≡ At m
+found_pair : (ns w : List ℕ) (vs at k x m : ℕ) → find_but ns w vs at k x ≡ Some m → find_at w at k x ≡ Some m
 unfolding find_but
 found_pair ns w vs at k x m = go (elem tyvars (tyvar_of ns x) (vars_of_word ns w vs))
   where
-    go : (b : Bool) → if b Nothing (find_at w at k x) ≡ At m → find_at w at k x ≡ At m
+    go : (b : Bool) → if b None (find_at w at k x) ≡ Some m → find_at w at k x ≡ Some m
     go true e = let z : ◌≡◌ {A = ℕ} 0 1 = cc in absurd (omega arith)
     go false e = e
 
 -- What a caller of `find_but` learns: f is what it returned, and the arm of the match says which one it is.
-module _ {ns w : List ℕ} {top left at k vs t : ℕ} (R : ReadyBut ns w top left at k vs t) (x : ℕ) {f : Found} (e : f ≡ find_but ns w vs at k x) where
+module _ {ns w : List ℕ} {top left at k vs t : ℕ} (R : ReadyBut ns w top left at k vs t) (x : ℕ) {f : Maybe ℕ} (e : f ≡ find_but ns w vs at k x) where
   -- The variable becomes the type of the word that was found.
-  pub look_at : {m : ℕ} → f ≡ At m → look (sub_but ns w vs at k) (tyvar_of ns x) ≡ tree ns w m
+  pub look_at : {m : ℕ} → f ≡ Some m → look (sub_but ns w vs at k) (tyvar_of ns x) ≡ tree ns w m
   unfolding or_var
   look_at h = rw (get_but ns R.ty.names w vs at k x, sym e ∙ h)
 
   -- Or it stays.
-  pub look_nothing : f ≡ Nothing → look (sub_but ns w vs at k) (tyvar_of ns x) ≡ var (tyvar_of ns x)
+  pub look_nothing : f ≡ None → look (sub_but ns w vs at k) (tyvar_of ns x) ≡ var (tyvar_of ns x)
   unfolding or_var
   look_nothing h = rw (get_but ns R.ty.names w vs at k x, sym e ∙ h)
 
   -- That word is one of the table.
-  pub found_node : {m : ℕ} → f ≡ At m → Node w top m
+  pub found_node : {m : ℕ} → f ≡ Some m → Node w top m
   found_node {m} h = L.found_node x R.ty.node.table R.ty.sub refl (found_pair ns w vs at k x m (sym e ∙ h))
 
 -- Without no variables all pairs are left.

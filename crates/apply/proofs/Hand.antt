@@ -12,8 +12,8 @@ use Rattle.errors.specs.Refusals.{refusal_of, InTable, Refuses}
 use Rattle.pairs.specs.Pairs.{Stands}
 use Rattle.pairs.proofs.Frames.{stands_refl, stands_then, stands_up}
 use Rattle.apply.specs.Region.{Grown, Answer, Gives}
-use Rattle.apply.specs.declared.Applied.{Applied}
-use Rattle.apply.specs.declared.Applied.TheVariants.{Done, Refused}
+use Rattle.apply.specs.Applied.{Applied}
+use Rattle.apply.specs.Applied.{Done, Refused}
 
 -- ## Refusals, of whatever outcome
 

@@ -8,19 +8,22 @@ use Rattle.meaning.specs.Subst.{each, apply_in}
 use Rattle.names.specs.Names.{first_node}
 use Rattle.ast.specs.Table.{shape_of, cell_of, tree, list, pushed}
 use Rattle.ast.specs.declared.Shape.{Shape}
-use Rattle.ast.specs.declared.Shape.TheVariants.{Con, Arrow}
+use Rattle.ast.specs.declared.Shape.TheVariants.{Var, Con, Arrow}
 use Rattle.ast.specs.declared.Cell.{Cell}
 use Rattle.ast.specs.declared.Cell.TheVariants.{Cons}
 use Rattle.ast.proofs.Ranges.{cons_node}
-use Rattle.ast.proofs.Laws.{arrow_right, cons_tail, node_more}
+use Rattle.std.specs.Option.{unwrap_or}
+use Rattle.std.specs.Prelude.{Option as Maybe, Some, None}
+use Rattle.ast.proofs.Laws.{var_node, arrow_right, cons_tail, node_more}
 use Rattle.ast.proofs.NewNode.{push_con, push_arrow, push_cons}
 use Rattle.errors.specs.declared.Refusal.{Refusal}
 use Rattle.pairs.proofs.Frames.{pushed_stands}
-use Rattle.apply.specs.Region.{sub_but, ReadyBut, Gives}
-use Rattle.apply.specs.declared.Applied.{Applied}
-use Rattle.apply.specs.declared.Applied.TheVariants.{Done, Refused}
-use Rattle.apply.proofs.Hand.{within, gives, gave, fails, goes, adds, same_then}
-use Rattle.apply.proofs.Arms.{at_con, at_arrow, at_cons, but_then, apply_kept, each_kept, arrow_kept, cons_kept}
+use Rattle.apply.specs.Region.{sub_but, find_but, ReadyBut, Gives}
+use Rattle.apply.specs.Applied.{Applied}
+use Rattle.apply.specs.Applied.{Done, Refused}
+use Rattle.apply.proofs.Buts.{look_at, look_nothing, found_node}
+use Rattle.apply.proofs.Hand.{within, stays, gives, gave, fails, goes, adds, same_then}
+use Rattle.apply.proofs.Arms.{at_var, at_free, at_con, at_arrow, at_cons, but_then, apply_kept, each_kept, arrow_kept, cons_kept}
 
 -- There is room for node top₁, and a word can name it.
 pub record Room (w₁ : List ℕ) (top top₁ : ℕ) : Type 0 where
@@ -31,6 +34,12 @@ pub record Room (w₁ : List ℕ) (top top₁ : ℕ) : Type 0 where
 -- ## At a type: r is what `shape_at` returned
 
 module _ {ns w : List ℕ} {top left at k vs t depth : ℕ} (R : ReadyBut ns w top left at k vs t) (dp : depth ≡ 0 → ⊥) (lp : left ≡ 0 → ⊥) {r : Shape} (e : r ≡ shape_of w t) where
+  -- A variable: what the pairs have for it, or itself.
+  pub var_given : {x : ℕ} → r ≡ Var x → (f : Maybe ℕ) → f ≡ find_but ns w vs at k x
+      → Gives (tree ns w) (4 * top + 8 * left - 4) ns w w top left (apply_in depth (sub_but ns w vs at k) (tree ns w t) left) (Done (unwrap_or f x) top (left - 1))
+  var_given arm (Some m) g = gives (stays (at_var ns R.ty.node _ dp lp e arm (look_at R _ g refl)) (found_node R _ g refl) (omega arith) (omega arith))
+  var_given arm None g = gives (stays (at_free ns R.ty.node _ dp lp e arm (look_nothing R _ g refl)) (var_node R.ty.node e arm) (omega arith) (omega arith))
+
   -- A constructor, after the call for its arguments.
   module _ {c b : ℕ} (arm : r ≡ Con c b) {w₁ : List ℕ} {r₁ : Applied}
       (G : Gives (list ns w₁) (4 * top + 8 * (left - 1)) ns w w₁ top (left - 1) (each (apply_in (depth - 1) (sub_but ns w vs at k)) (list ns w b) (left - 1)) r₁) where

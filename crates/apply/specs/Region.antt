@@ -9,10 +9,9 @@ use Rattle.ast.specs.Table.{Node}
 use Rattle.errors.specs.Refusals.{Refuses}
 use Rattle.vars.specs.Vars.{vars_of_word}
 use Rattle.pairs.specs.Pairs.{sub_at, find_at, Sub, Stands}
-use Rattle.pairs.specs.declared.Found.{Found}
-use Rattle.pairs.specs.declared.Found.TheVariants.{Nothing}
-use Rattle.apply.specs.declared.Applied.{Applied}
-use Rattle.apply.specs.declared.Applied.TheVariants.{Done, Refused}
+use Rattle.apply.specs.Applied.{Applied}
+use Rattle.apply.specs.Applied.{Done, Refused}
+use Rattle.std.specs.Prelude.{Option, None}
 
 -- A type t, and the k pairs from at, where the stack ends; between table and stack is room for 8 words a step.
 pub record Ready (ns w : List ℕ) (top left at k t : ℕ) : Type 0 where
@@ -26,8 +25,8 @@ abbrev pub sub_but : List ℕ → List ℕ → ℕ → ℕ → ℕ → Subst
 sub_but ns w vs at k = filtered (vars_of_word ns w vs) (sub_at ns w at k)
 
 -- The type's word that these have for the variable's word x.
-unfoldable pub find_but : List ℕ → List ℕ → ℕ → ℕ → ℕ → ℕ → Found
-find_but ns w vs at k x = if (elem tyvars (tyvar_of ns x) (vars_of_word ns w vs)) Nothing (find_at w at k x)
+unfoldable pub find_but : List ℕ → List ℕ → ℕ → ℕ → ℕ → ℕ → Option ℕ
+find_but ns w vs at k x = if (elem tyvars (tyvar_of ns x) (vars_of_word ns w vs)) None (find_at w at k x)
 
 -- The same as `Ready`, and a list vs of variables that stay.
 pub record ReadyBut (ns w : List ℕ) (top left at k vs t : ℕ) : Type 0 where

@@ -6,170 +6,115 @@ ghost use Rattle.meaning.specs.Subst.{apply_in, each};
 ghost use Rattle.names.specs.Names.{Names};
 ghost use Rattle.ast.specs.Table.{tree, list, Node};
 ghost use Rattle.pairs.specs.Pairs.{sub_at};
+ghost use Rattle.apply.specs.Applied.{applied_of};
 ghost use Rattle.apply.specs.Region.{sub_but, find_but, Ready, ReadyBut, Gives};
 
-use ast::{Cell, Shape};
+use ast::{Base, Cell, Room, Shape};
 use errors::Refusal;
-use pairs::Found;
+use pairs::Subst;
 
-// A type's word, the first free node and the steps left; or a refusal with the same two.
-#[derive(Clone, Copy)]
-pub enum Applied {
-    Done(usize, usize, usize),
-    Refused(Refusal, usize, usize),
-}
-
-// What the k pairs from at have for the variable of word x, unless it is one of the list vs.
-fn find_but(
-    base: &[u64],
-    work: &[u64],
-    names: &[u64],
-    top: usize,
-    at: usize,
-    k: usize,
-    vs: usize,
-    x: usize,
-) -> Found
-    requires names { Names names.now }
-    requires node { Node (base.now ++ work.now) top vs }
-    requires k_in_bounds { at + 2 * k ≤ length (base.now ++ work.now) }
-    ensures { result ≡ find_but names.now (base.now ++ work.now) vs at k x }
+// What the pairs have for the variable of word x, unless it is one of the list vs.
+fn find_but(base: Base, work: &[u64], top: usize, sub: Subst, vs: usize, x: usize) -> Option<usize>
+    requires names { Names base.names.now }
+    requires node { Node (base.words.now ++ work.now) top vs }
+    requires k_in_bounds { sub.at + 2 * sub.k ≤ length (base.words.now ++ work.now) }
+    ensures { result ≡ find_but base.entry.names.now (base.entry.words.now ++ work.now) vs sub.at sub.k x }
 {
-    if vars::has_var(base, work, names, top, vs, x) {
-        return Found::Nothing;
+    if vars::has_var(base, work, top, vs, x) {
+        return None;
     }
-    pairs::find(base, work, at, k, x)
+    pairs::find(base, work, sub, x)
 }
 
-// The k pairs from at applied to the type t, where the variables of the list vs stay: `apply_type` of the substitution
+// The pairs applied to the type t, where the variables of the list vs stay: `apply_type` of the substitution
 // without them, with so much depth left. No step would pay for a copy of it.
 #[cycle(apply_but_args_but)]
 pub fn apply_but(
-    base: &[u64],
+    base: Base,
     work: &mut [u64],
-    names: &[u64],
-    top: usize,
-    left: usize,
+    room: &mut Room,
     depth: usize,
-    at: usize,
-    k: usize,
+    sub: Subst,
     vs: usize,
     t: usize,
-) -> Applied
-    requires base_len_bound { length base.now ≤ 4 * top }
-    requires ready_but { ReadyBut names.now (base.now ++ work.old) top left at k vs t }
-    ensures { Gives (tree names.now (base.now ++ work.new)) (4 * top + 8 * left - 4) names.now
-        (base.now ++ work.old) (base.now ++ work.new) top left
-        (apply_in depth (sub_but names.now (base.now ++ work.old) vs at k) (tree names.now (base.now ++ work.old) t) left) result }
+) -> Result<usize, Refusal>
+    requires base_len_bound { length base.words.now ≤ 4 * room.old.top }
+    requires ready_but { ReadyBut base.names.now (base.words.now ++ work.old) room.old.top room.old.left sub.at sub.k vs t }
+    ensures { Gives (tree base.entry.names.now (base.entry.words.now ++ work.new)) (4 * room.old.top + 8 * room.old.left - 4) base.entry.names.now
+        (base.entry.words.now ++ work.old) (base.entry.words.now ++ work.new) room.old.top room.old.left
+        (apply_in depth (sub_but base.entry.names.now (base.entry.words.now ++ work.old) vs sub.at sub.k) (tree base.entry.names.now (base.entry.words.now ++ work.old) t) room.old.left) (applied_of result room.new.top room.new.left) }
 {
     if depth == 0 {
-        return Applied::Refused(Refusal::Depth, top, left);
+        return Err(Refusal::Depth);
     }
-    if left == 0 {
-        return Applied::Refused(Refusal::Steps, top, 0);
+    if room.left == 0 {
+        return Err(Refusal::Steps);
     }
     let d = depth - 1;
-    let l = left - 1;
+    room.left -= 1;
     let s = ast::shape_at(base, work, t);
     match s {
         Shape::Var(x) => {
-            let f = find_but(base, work, names, top, at, k, vs, x);
-            match f {
-                Found::At(m) => Applied::Done(m, top, l),
-                Found::Nothing => Applied::Done(x, top, l),
-            }
+            let f = find_but(base, work, room.top, sub, vs, x);
+            Ok(f.unwrap_or(x))
         }
         Shape::Con(c, b) => {
             if b == ast::NIL {
-                return Applied::Done(t, top, l);
+                return Ok(t);
             }
-            let r = args_but(base, work, names, top, l, d, at, k, vs, b);
-            match r {
-                Applied::Done(m, t2, l2) => {
-                    ast::push(base, work, t2, 1, c, m);
-                    Applied::Done(names::NODE + t2, t2 + 1, l2)
-                }
-                Applied::Refused(e, t2, l2) => Applied::Refused(e, t2, l2),
-            }
+            let m = args_but(base, work, room, d, sub, vs, b)?;
+            Ok(ast::add(base, work, room, ast::CON, c, m))
         }
         Shape::Arrow(a, b) => {
-            let r = apply_but(base, work, names, top, l, d, at, k, vs, a);
-            match r {
-                Applied::Done(m, t2, l2) => {
-                    let q = apply_but(base, work, names, t2, l2, d, at, k, vs, b);
-                    match q {
-                        Applied::Done(m2, t3, l3) => {
-                            ast::push(base, work, t3, 2, m, m2);
-                            Applied::Done(names::NODE + t3, t3 + 1, l3)
-                        }
-                        Applied::Refused(e, t3, l3) => Applied::Refused(e, t3, l3),
-                    }
-                }
-                Applied::Refused(e, t2, l2) => Applied::Refused(e, t2, l2),
-            }
+            let m = apply_but(base, work, room, d, sub, vs, a)?;
+            let n = apply_but(base, work, room, d, sub, vs, b)?;
+            Ok(ast::add(base, work, room, ast::ARROW, m, n))
         }
     }
 }
 
-// The k pairs from at applied to each type of the list n, left to right; the variables of the list vs stay.
+// The pairs applied to each type of the list n, left to right; the variables of the list vs stay.
 #[cycle(apply_but_args_but)]
 fn args_but(
-    base: &[u64],
+    base: Base,
     work: &mut [u64],
-    names: &[u64],
-    top: usize,
-    left: usize,
+    room: &mut Room,
     depth: usize,
-    at: usize,
-    k: usize,
+    sub: Subst,
     vs: usize,
     n: usize,
-) -> Applied
-    requires base_len_bound { length base.now ≤ 4 * top }
-    requires ready_but { ReadyBut names.now (base.now ++ work.old) top left at k vs n }
-    ensures { Gives (list names.now (base.now ++ work.new)) (4 * top + 8 * left) names.now
-        (base.now ++ work.old) (base.now ++ work.new) top left
-        (each (apply_in depth (sub_but names.now (base.now ++ work.old) vs at k)) (list names.now (base.now ++ work.old) n) left) result }
+) -> Result<usize, Refusal>
+    requires base_len_bound { length base.words.now ≤ 4 * room.old.top }
+    requires ready_but { ReadyBut base.names.now (base.words.now ++ work.old) room.old.top room.old.left sub.at sub.k vs n }
+    ensures { Gives (list base.entry.names.now (base.entry.words.now ++ work.new)) (4 * room.old.top + 8 * room.old.left) base.entry.names.now
+        (base.entry.words.now ++ work.old) (base.entry.words.now ++ work.new) room.old.top room.old.left
+        (each (apply_in depth (sub_but base.entry.names.now (base.entry.words.now ++ work.old) vs sub.at sub.k)) (list base.entry.names.now (base.entry.words.now ++ work.old) n) room.old.left) (applied_of result room.new.top room.new.left) }
 {
     let c = ast::cell_at(base, work, n);
     match c {
-        Cell::Nil => Applied::Done(n, top, left),
+        Cell::Nil => Ok(n),
         Cell::Cons(a, b) => {
-            let r = apply_but(base, work, names, top, left, depth, at, k, vs, a);
-            match r {
-                Applied::Done(m, t2, l2) => {
-                    let q = args_but(base, work, names, t2, l2, depth, at, k, vs, b);
-                    match q {
-                        Applied::Done(m2, t3, l3) => {
-                            ast::push(base, work, t3, 3, m, m2);
-                            Applied::Done(names::NODE + t3, t3 + 1, l3)
-                        }
-                        Applied::Refused(e, t3, l3) => Applied::Refused(e, t3, l3),
-                    }
-                }
-                Applied::Refused(e, t2, l2) => Applied::Refused(e, t2, l2),
-            }
+            let m = apply_but(base, work, room, depth, sub, vs, a)?;
+            let l = args_but(base, work, room, depth, sub, vs, b)?;
+            Ok(ast::add(base, work, room, ast::CONS, m, l))
         }
     }
 }
 
-// The k pairs from at applied to the type t: `apply_type` with so much depth left.
+// The pairs applied to the type t: `apply_type` with so much depth left.
 pub fn apply(
-    base: &[u64],
+    base: Base,
     work: &mut [u64],
-    names: &[u64],
-    top: usize,
-    left: usize,
+    room: &mut Room,
     depth: usize,
-    at: usize,
-    k: usize,
+    sub: Subst,
     t: usize,
-) -> Applied
-    requires base_len_bound { length base.now ≤ 4 * top }
-    requires ready { Ready names.now (base.now ++ work.old) top left at k t }
-    ensures { Gives (tree names.now (base.now ++ work.new)) (4 * top + 8 * left - 4) names.now
-        (base.now ++ work.old) (base.now ++ work.new) top left
-        (apply_in depth (sub_at names.now (base.now ++ work.old) at k) (tree names.now (base.now ++ work.old) t) left) result }
+) -> Result<usize, Refusal>
+    requires base_len_bound { length base.words.now ≤ 4 * room.old.top }
+    requires ready { Ready base.names.now (base.words.now ++ work.old) room.old.top room.old.left sub.at sub.k t }
+    ensures { Gives (tree base.entry.names.now (base.entry.words.now ++ work.new)) (4 * room.old.top + 8 * room.old.left - 4) base.entry.names.now
+        (base.entry.words.now ++ work.old) (base.entry.words.now ++ work.new) room.old.top room.old.left
+        (apply_in depth (sub_at base.entry.names.now (base.entry.words.now ++ work.old) sub.at sub.k) (tree base.entry.names.now (base.entry.words.now ++ work.old) t) room.old.left) (applied_of result room.new.top room.new.left) }
 {
-    apply_but(base, work, names, top, left, depth, at, k, ast::NIL, t)
+    apply_but(base, work, room, depth, sub, ast::NIL, t)
 }

@@ -1,4 +1,5 @@
 // Types as words over a closed table and the lent buffer behind it, in which a table of nodes grows from below.
+// No heap: a node is words of the buffer, and names others by their words.
 #![tactic(auto)]
 
 ghost use Rattle.std.specs.Prelude.{◌≡◌, List, ◌++◌, ℕ, ◌+◌, ◌*◌, ◌<◌, ◌≤◌, length, get_or};
@@ -27,6 +28,13 @@ pub enum Cell {
 
 // The empty list of types.
 pub const NIL: usize = 0;
+
+// The tags of nodes: a constructor and its arguments, an arrow, a first type and the rest of a list.
+pub const CON: u64 = 1;
+
+pub const ARROW: u64 = 2;
+
+pub const CONS: u64 = 3;
 
 // The numbers of the names of the two built-in types.
 pub const INT: usize = 0;
@@ -59,48 +67,64 @@ impl Type {
     }
 }
 
+// What is lent and never written: the words of the closed table, and the table of names.
+// The buffer stays beside it, and with it the clause `base_len_bound` in each contract: a struct with a `&mut` in it makes
+// each function promise that it keeps that reference, which is no plainer.
+#[derive(Clone, Copy)]
+pub struct Base<'a> {
+    pub words: &'a [u64],
+    pub names: &'a [u64],
+}
+
+// The first free node, and the steps left.
+#[derive(Clone, Copy)]
+pub struct Room {
+    pub top: usize,
+    pub left: usize,
+}
+
 // A word of the two tables.
-pub fn get(base: &[u64], work: &[u64], i: usize) -> u64
-    requires { i < length (base.now ++ work.now) }
-    ensures { result ≡ get_or (base.now ++ work.now) i 0 }
+pub fn get(base: Base, work: &[u64], i: usize) -> u64
+    requires { i < length (base.words.now ++ work.now) }
+    ensures { result ≡ get_or (base.entry.words.now ++ work.now) i 0 }
 {
-    let n = base.len();
+    let n = base.words.len();
     if i < n {
-        return base[i];
+        return base.words[i];
     }
     let j = i - n;
     work[j]
 }
 
 // A word of the two tables, as a type's word or an index.
-pub fn index(base: &[u64], work: &[u64], i: usize) -> usize
-    requires { i < length (base.now ++ work.now) }
-    ensures { result ≡ get_or (base.now ++ work.now) i 0 }
+pub fn index(base: Base, work: &[u64], i: usize) -> usize
+    requires { i < length (base.words.now ++ work.now) }
+    ensures { result ≡ get_or (base.entry.words.now ++ work.now) i 0 }
 {
     get(base, work, i) as usize
 }
 
 // The shape that node n says, whose word is t.
-fn node_shape(base: &[u64], work: &[u64], t: usize, n: usize) -> Shape
-    requires { 4 * n + 4 ≤ length (base.now ++ work.now) }
-    ensures { result ≡ shape t (get_or (base.now ++ work.now) (4 * n) 0) (get_or (base.now ++ work.now) (4 * n + 1) 0)
-        (get_or (base.now ++ work.now) (4 * n + 2) 0) }
+fn node_shape(base: Base, work: &[u64], t: usize, n: usize) -> Shape
+    requires { 4 * n + 4 ≤ length (base.words.now ++ work.now) }
+    ensures { result ≡ shape t (get_or (base.entry.words.now ++ work.now) (4 * n) 0) (get_or (base.entry.words.now ++ work.now) (4 * n + 1) 0)
+        (get_or (base.entry.words.now ++ work.now) (4 * n + 2) 0) }
 {
     let i = 4 * n;
     let tag = get(base, work, i);
-    if tag == 1 {
+    if tag == CON {
         return Shape::Con(index(base, work, i + 1), index(base, work, i + 2));
     }
-    if tag == 2 {
+    if tag == ARROW {
         return Shape::Arrow(index(base, work, i + 1), index(base, work, i + 2));
     }
     Shape::Var(t)
 }
 
 // The shape of the type t.
-pub fn shape_at(base: &[u64], work: &[u64], t: usize) -> Shape
-    requires { 4 * t + 4 ≤ 4 * first_node + length (base.now ++ work.now) }
-    ensures { result ≡ shape_of (base.now ++ work.now) t }
+pub fn shape_at(base: Base, work: &[u64], t: usize) -> Shape
+    requires { 4 * t + 4 ≤ 4 * first_node + length (base.words.now ++ work.now) }
+    ensures { result ≡ shape_of (base.entry.words.now ++ work.now) t }
 {
     let k = names::kind_of(t);
     match k {
@@ -112,23 +136,23 @@ pub fn shape_at(base: &[u64], work: &[u64], t: usize) -> Shape
 }
 
 // The list that node n says.
-fn node_cell(base: &[u64], work: &[u64], n: usize) -> Cell
-    requires { 4 * n + 4 ≤ length (base.now ++ work.now) }
-    ensures { result ≡ cell (get_or (base.now ++ work.now) (4 * n) 0) (get_or (base.now ++ work.now) (4 * n + 1) 0)
-        (get_or (base.now ++ work.now) (4 * n + 2) 0) }
+fn node_cell(base: Base, work: &[u64], n: usize) -> Cell
+    requires { 4 * n + 4 ≤ length (base.words.now ++ work.now) }
+    ensures { result ≡ cell (get_or (base.entry.words.now ++ work.now) (4 * n) 0) (get_or (base.entry.words.now ++ work.now) (4 * n + 1) 0)
+        (get_or (base.entry.words.now ++ work.now) (4 * n + 2) 0) }
 {
     let i = 4 * n;
     let tag = get(base, work, i);
-    if tag == 3 {
+    if tag == CONS {
         return Cell::Cons(index(base, work, i + 1), index(base, work, i + 2));
     }
     Cell::Nil
 }
 
 // What the list l is.
-pub fn cell_at(base: &[u64], work: &[u64], l: usize) -> Cell
-    requires { 4 * l + 4 ≤ 4 * first_node + length (base.now ++ work.now) }
-    ensures { result ≡ cell_of (base.now ++ work.now) l }
+pub fn cell_at(base: Base, work: &[u64], l: usize) -> Cell
+    requires { 4 * l + 4 ≤ 4 * first_node + length (base.words.now ++ work.now) }
+    ensures { result ≡ cell_of (base.entry.words.now ++ work.now) l }
 {
     let k = names::kind_of(l);
     match k {
@@ -139,22 +163,37 @@ pub fn cell_at(base: &[u64], work: &[u64], l: usize) -> Cell
     }
 }
 
-// Writes the node top: 1 a constructor and its arguments, 2 an arrow, 3 a first type and the rest of a list.
-pub fn push(base: &[u64], work: &mut [u64], top: usize, tag: u64, a: usize, b: usize)
-    requires base_len_bound { length base.now ≤ 4 * top }
-    requires top_in_bounds { 4 * top + 4 ≤ length (base.now ++ work.old) }
-    ensures { base.now ++ work.new ≡ pushed (base.now ++ work.old) top tag a b }
+// Writes the node top: a tag and two words.
+pub fn push(base: Base, work: &mut [u64], top: usize, tag: u64, a: usize, b: usize)
+    requires base_len_bound { length base.words.now ≤ 4 * top }
+    requires top_in_bounds { 4 * top + 4 ≤ length (base.words.now ++ work.old) }
+    ensures { base.entry.words.now ++ work.new ≡ pushed (base.entry.words.now ++ work.old) top tag a b }
 {
-    let i = 4 * top - base.len();
+    let i = 4 * top - base.words.len();
     work[i] = tag;
     work[i + 1] = a as u64;
     work[i + 2] = b as u64;
 }
 
+// Writes the next node, and answers its word.
+pub fn add(base: Base, work: &mut [u64], room: &mut Room, tag: u64, a: usize, b: usize) -> usize
+    requires base_len_bound { length base.words.now ≤ 4 * room.old.top }
+    requires top_in_bounds { 4 * room.old.top + 4 ≤ length (base.words.now ++ work.old) }
+    ensures is { base.entry.words.now ++ work.new ≡ pushed (base.entry.words.now ++ work.old) room.old.top tag a b }
+    ensures word { result ≡ first_node + room.old.top }
+    ensures top { room.new.top ≡ room.old.top + 1 }
+    ensures left { room.new.left ≡ room.old.left }
+{
+    push(base, work, room.top, tag, a, b);
+    let word = names::NODE + room.top;
+    room.top += 1;
+    word
+}
+
 // How many types the list l has.
-pub fn count_list(base: &[u64], work: &[u64], top: usize, l: usize) -> usize
-    requires { Node (base.now ++ work.now) top l }
-    ensures { (ns : List ℕ) → Counted ns (base.now ++ work.now) l result }
+pub fn count_list(base: Base, work: &[u64], top: usize, l: usize) -> usize
+    requires { Node (base.words.now ++ work.now) top l }
+    ensures { (ns : List ℕ) → Counted ns (base.entry.words.now ++ work.now) l result }
 {
     let c = cell_at(base, work, l);
     match c {
@@ -165,50 +204,50 @@ pub fn count_list(base: &[u64], work: &[u64], top: usize, l: usize) -> usize
 
 // Whether the variable of word v stands in the type t. A shared node is walked once for each place where it stands.
 #[cycle(occurs_in_occurs_list)]
-pub fn occurs_in(base: &[u64], work: &[u64], names: &[u64], top: usize, v: usize, t: usize) -> bool
-    requires names { Names names.now }
-    requires node { Node (base.now ++ work.now) top t }
-    ensures { result ≡ occurs (tyvar_of names.now v) (tree names.now (base.now ++ work.now) t) }
+pub fn occurs_in(base: Base, work: &[u64], top: usize, v: usize, t: usize) -> bool
+    requires names { Names base.names.now }
+    requires node { Node (base.words.now ++ work.now) top t }
+    ensures { result ≡ occurs (tyvar_of base.entry.names.now v) (tree base.entry.names.now (base.entry.words.now ++ work.now) t) }
 {
     let s = shape_at(base, work, t);
     match s {
         Shape::Var(x) => v == x,
-        Shape::Con(_, l) => occurs_list(base, work, names, top, v, l),
+        Shape::Con(_, l) => occurs_list(base, work, top, v, l),
         Shape::Arrow(a, b) => {
-            if occurs_in(base, work, names, top, v, a) {
+            if occurs_in(base, work, top, v, a) {
                 return true;
             }
-            occurs_in(base, work, names, top, v, b)
+            occurs_in(base, work, top, v, b)
         }
     }
 }
 
 // Whether the variable of word v stands in a type of the list l.
 #[cycle(occurs_in_occurs_list)]
-fn occurs_list(base: &[u64], work: &[u64], names: &[u64], top: usize, v: usize, l: usize) -> bool
-    requires names { Names names.now }
-    requires node { Node (base.now ++ work.now) top l }
-    ensures { result ≡ occurs_in (tyvar_of names.now v) (list names.now (base.now ++ work.now) l) }
+fn occurs_list(base: Base, work: &[u64], top: usize, v: usize, l: usize) -> bool
+    requires names { Names base.names.now }
+    requires node { Node (base.words.now ++ work.now) top l }
+    ensures { result ≡ occurs_in (tyvar_of base.entry.names.now v) (list base.entry.names.now (base.entry.words.now ++ work.now) l) }
 {
     let s = cell_at(base, work, l);
     match s {
         Cell::Nil => false,
         Cell::Cons(a, b) => {
-            if occurs_in(base, work, names, top, v, a) {
+            if occurs_in(base, work, top, v, a) {
                 return true;
             }
-            occurs_list(base, work, names, top, v, b)
+            occurs_list(base, work, top, v, b)
         }
     }
 }
 
 // Whether the words s and t are the same type, as trees. Equal words are, with no walk.
 #[cycle(same_same_list)]
-pub fn same(base: &[u64], work: &[u64], names: &[u64], top: usize, s: usize, t: usize) -> bool
-    requires names { Names names.now }
-    requires node { Node (base.now ++ work.now) top s }
-    requires node_2 { Node (base.now ++ work.now) top t }
-    ensures { result ≡ is_yes (same_ty (tree names.now (base.now ++ work.now) s) (tree names.now (base.now ++ work.now) t)) }
+pub fn same(base: Base, work: &[u64], top: usize, s: usize, t: usize) -> bool
+    requires names { Names base.names.now }
+    requires node { Node (base.words.now ++ work.now) top s }
+    requires node_2 { Node (base.words.now ++ work.now) top t }
+    ensures { result ≡ is_yes (same_ty (tree base.entry.names.now (base.entry.words.now ++ work.now) s) (tree base.entry.names.now (base.entry.words.now ++ work.now) t)) }
 {
     if s == t {
         return true;
@@ -227,7 +266,7 @@ pub fn same(base: &[u64], work: &[u64], names: &[u64], top: usize, s: usize, t: 
                 if c != d {
                     return false;
                 }
-                same_list(base, work, names, top, k, l)
+                same_list(base, work, top, k, l)
             }
             Shape::Arrow(_, _) => false,
         },
@@ -235,8 +274,8 @@ pub fn same(base: &[u64], work: &[u64], names: &[u64], top: usize, s: usize, t: 
             Shape::Var(_) => false,
             Shape::Con(_, _) => false,
             Shape::Arrow(c, d) => {
-                if same(base, work, names, top, a, c) {
-                    return same(base, work, names, top, b, d);
+                if same(base, work, top, a, c) {
+                    return same(base, work, top, b, d);
                 }
                 false
             }
@@ -246,11 +285,11 @@ pub fn same(base: &[u64], work: &[u64], names: &[u64], top: usize, s: usize, t: 
 
 // Whether two lists are the same types.
 #[cycle(same_same_list)]
-fn same_list(base: &[u64], work: &[u64], names: &[u64], top: usize, k: usize, l: usize) -> bool
-    requires names { Names names.now }
-    requires node { Node (base.now ++ work.now) top k }
-    requires node_2 { Node (base.now ++ work.now) top l }
-    ensures { SameTys (list names.now (base.now ++ work.now) k) (list names.now (base.now ++ work.now) l) result }
+fn same_list(base: Base, work: &[u64], top: usize, k: usize, l: usize) -> bool
+    requires names { Names base.names.now }
+    requires node { Node (base.words.now ++ work.now) top k }
+    requires node_2 { Node (base.words.now ++ work.now) top l }
+    ensures { SameTys (list base.entry.names.now (base.entry.words.now ++ work.now) k) (list base.entry.names.now (base.entry.words.now ++ work.now) l) result }
 {
     if k == l {
         return true;
@@ -265,8 +304,8 @@ fn same_list(base: &[u64], work: &[u64], names: &[u64], top: usize, k: usize, l:
         Cell::Cons(a, b) => match q {
             Cell::Nil => false,
             Cell::Cons(c, d) => {
-                if same(base, work, names, top, a, c) {
-                    return same_list(base, work, names, top, b, d);
+                if same(base, work, top, a, c) {
+                    return same_list(base, work, top, b, d);
                 }
                 false
             }

@@ -22,11 +22,11 @@ use Rattle.instances.proofs.Held.{heads_kept}
 use Rattle.resolve.proofs.Goals.{declared_kept}
 use Rattle.scope.specs.Scope.{env_of}
 use Rattle.scope.specs.Sweeps.{ReadyEnv, EnvDone, GivesEnv}
-use Rattle.scope.specs.declared.Swept.{Swept}
-use Rattle.scope.specs.declared.Swept.TheVariants.{Done as S-Done, Refused as S-Refused}
+use Rattle.scope.specs.Swept.{Swept}
+use Rattle.scope.specs.Swept.{Done as S-Done, Refused as S-Refused}
 use Rattle.scope.proofs.States.{scope_applies, scope_refuses}
-use Rattle.generalize.specs.declared.Generalized.{Generalized}
-use Rattle.generalize.specs.declared.Generalized.TheVariants.{Done, Refused}
+use Rattle.generalize.specs.Generalized.{Generalized}
+use Rattle.generalize.specs.Generalized.{Done, Refused}
 use Rattle.inferred.specs.Parts.{let_general}
 use Rattle.inferred.specs.Closing.{answer_of}
 use Rattle.inferred.specs.Inferring.{state_of}

@@ -27,11 +27,11 @@ use Rattle.scope.specs.Scope.{env_of}
 use Rattle.scope.proofs.Laws.{scope_kept, env_kept}
 use Rattle.pending.specs.Rows.{PendingRows}
 use Rattle.pending.specs.Swept.{ReadySweep, RowsSwept, GivesRows}
-use Rattle.pending.specs.declared.Swept.{Swept}
-use Rattle.pending.specs.declared.Swept.TheVariants.{Done as S-Done, Refused as S-Refused}
+use Rattle.pending.specs.Swept.{Swept}
+use Rattle.pending.specs.Swept.{Done as S-Done, Refused as S-Refused}
 use Rattle.generalize.specs.Generalizes.{ReadyGeneralize, Known, GeneralizedAs, GivesGeneralized}
-use Rattle.generalize.specs.declared.Generalized.{Generalized}
-use Rattle.generalize.specs.declared.Generalized.TheVariants.{Done, Refused}
+use Rattle.generalize.specs.Generalized.{Generalized}
+use Rattle.generalize.specs.Generalized.{Done, Refused}
 use Rattle.inferred.specs.Closing.{answer_of}
 use Rattle.inferred.specs.Inferring.{state_of}
 use Rattle.compose.proofs.Hand.{after-after}

@@ -1,2 +1,3 @@
 pub mod AfterEnv
 pub mod AfterRows
+pub mod Seen

@@ -20,8 +20,8 @@ use Rattle.pending.specs.Rows.{PendingRows}
 use Rattle.resolve.specs.Resolves.{Declared}
 use Rattle.inferred.specs.Closing.{Answered}
 use Rattle.inferred.specs.Inferring.{state_of, ReadyI}
-use Rattle.generalize.specs.declared.Generalized.{Generalized}
-use Rattle.generalize.specs.declared.Generalized.TheVariants.{Done, Refused}
+use Rattle.generalize.specs.Generalized.{Generalized}
+use Rattle.generalize.specs.Generalized.{Done, Refused}
 
 -- What inference leaves: types over made variables, and pending names that rise within some bounds and that the term does not bind.
 pub record Fit (r : M.Inferred) (st : M.State) : Type 0 where

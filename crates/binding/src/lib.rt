@@ -7,76 +7,72 @@ ghost use Rattle.inferred.specs.Closing.{answer_of};
 ghost use Rattle.inferred.specs.Inferring.{state_of};
 ghost use Rattle.binding.specs.Rest.{general_rest};
 ghost use Rattle.binding.specs.General.{ReadyMid, AskedGeneral, GivesG};
+ghost use Rattle.generalize.specs.Generalized.{generalized_of};
 
-use generalize::Generalized;
+use ast::{Base, Room};
+use errors::Refusal;
+use generalize::General;
+use inferred::Typed;
+use pairs::Subst;
+use resolve::Rules;
+use scope::{Env, Fresh};
 
-// The k pairs that end at sp applied to the first m rows, and then the type t, these rows and the term e generalized: the
-// environment was applied to before.
+// The pairs of what is bound applied to its rows, and then its type, these rows and its term generalized: the environment was
+// applied to before.
 fn rest(
-    base: &[u64],
+    base: Base,
     work: &mut [u64],
-    names: &[u64],
-    classes: &[u64],
-    insts: &[u64],
-    order: &[u64],
-    env: &[u64],
+    room: &mut Room,
+    rules: Rules,
+    env: Env,
     binders: &mut [u64],
-    top: usize,
-    left: usize,
     sp: usize,
-    tv: usize,
-    dv: usize,
-    k: usize,
-    m: usize,
-    t: usize,
-    e: usize,
-) -> Generalized
-    requires base_len_bound { length base.now ≤ 4 * top }
-    requires ready_mid { ReadyMid names.now (base.now ++ work.old) env.now order.now insts.now binders.old top left sp tv dv t e k m }
-    ensures { GivesG (AskedGeneral names.now classes.now (base.now ++ work.old) insts.now top (answer_of names.now (base.now ++ work.old) binders.old sp t e k m) (state_of names.now (base.now ++ work.old) env.now order.now tv dv)) (λ ce. general_rest ce (answer_of names.now (base.now ++ work.old) binders.old sp t e k m) (state_of names.now (base.now ++ work.old) env.now order.now tv dv) left) names.now (base.now ++ work.old) (base.now ++ work.new)
-        env.now order.now binders.old binders.new top left sp k m tv dv result }
+    fresh: Fresh,
+    bound: Typed,
+) -> Result<General, Refusal>
+    requires base_len_bound { length base.words.now ≤ 4 * room.old.top }
+    requires ready_mid { ReadyMid base.names.now (base.words.now ++ work.old) env.rows.now env.order.now rules.insts.now binders.old room.old.top room.old.left sp fresh.tv fresh.dv bound.ty bound.term bound.pairs bound.rows }
+    ensures { GivesG (AskedGeneral base.entry.names.now rules.entry.classes.now (base.entry.words.now ++ work.old) rules.entry.insts.now room.old.top (answer_of base.entry.names.now (base.entry.words.now ++ work.old) binders.old sp bound.ty bound.term bound.pairs bound.rows) (state_of base.entry.names.now (base.entry.words.now ++ work.old) env.entry.rows.now env.entry.order.now fresh.tv fresh.dv)) (λ ce. general_rest ce (answer_of base.entry.names.now (base.entry.words.now ++ work.old) binders.old sp bound.ty bound.term bound.pairs bound.rows) (state_of base.entry.names.now (base.entry.words.now ++ work.old) env.entry.rows.now env.entry.order.now fresh.tv fresh.dv) room.old.left) base.entry.names.now (base.entry.words.now ++ work.old) (base.entry.words.now ++ work.new)
+        env.entry.rows.now env.entry.order.now binders.old binders.new room.old.top room.old.left sp bound.pairs bound.rows fresh.tv fresh.dv (generalized_of result room.new.top room.new.left) }
 {
+    let k = bound.pairs;
     let at = sp - 2 * k;
-    let r = pending::apply_rows(base, work, names, binders, top, left, at, k, m);
-    match r {
-        pending::Swept::Done(t2, l2) => generalize::generalize(
-            base, work, names, classes, insts, env, order, binders, t2, l2, at, m, t, e,
-        ),
-        pending::Swept::Refused(x, t2, l2) => Generalized::Refused(x, t2, l2),
-    }
+    pending::apply_rows(base, work, room, binders, Subst { at, k }, bound.rows)?;
+    generalize::generalize(
+        base, work, room, rules, env, binders, at, bound.rows, bound.ty, bound.term,
+    )
 }
 
-// What a let binds, generalized: its type is t, its term e, k pairs end at sp and m rows are pending.
+// What a let binds, generalized: its pairs end at sp.
 pub fn general(
-    base: &[u64],
+    base: Base,
     work: &mut [u64],
-    names: &[u64],
-    classes: &[u64],
-    insts: &[u64],
+    room: &mut Room,
+    rules: Rules,
     order: &[u64],
     env: &mut [u64],
     binders: &mut [u64],
-    top: usize,
-    left: usize,
     sp: usize,
-    tv: usize,
-    dv: usize,
-    k: usize,
-    m: usize,
-    t: usize,
-    e: usize,
-) -> Generalized
-    requires base_len_bound { length base.now ≤ 4 * top }
-    requires ready_mid { ReadyMid names.now (base.now ++ work.old) env.old order.now insts.now binders.old top left sp tv dv t e k m }
-    ensures { GivesG (AskedGeneral names.now classes.now (base.now ++ work.old) insts.now top (answer_of names.now (base.now ++ work.old) binders.old sp t e k m) (state_of names.now (base.now ++ work.old) env.old order.now tv dv)) (λ ce. let_general ce (answer_of names.now (base.now ++ work.old) binders.old sp t e k m) (state_of names.now (base.now ++ work.old) env.old order.now tv dv) left) names.now (base.now ++ work.old) (base.now ++ work.new)
-        env.new order.now binders.old binders.new top left sp k m tv dv result }
+    fresh: Fresh,
+    bound: Typed,
+) -> Result<General, Refusal>
+    requires base_len_bound { length base.words.now ≤ 4 * room.old.top }
+    requires ready_mid { ReadyMid base.names.now (base.words.now ++ work.old) env.old order.now rules.insts.now binders.old room.old.top room.old.left sp fresh.tv fresh.dv bound.ty bound.term bound.pairs bound.rows }
+    ensures { GivesG (AskedGeneral base.entry.names.now rules.entry.classes.now (base.entry.words.now ++ work.old) rules.entry.insts.now room.old.top (answer_of base.entry.names.now (base.entry.words.now ++ work.old) binders.old sp bound.ty bound.term bound.pairs bound.rows) (state_of base.entry.names.now (base.entry.words.now ++ work.old) env.old order.now fresh.tv fresh.dv)) (λ ce. let_general ce (answer_of base.entry.names.now (base.entry.words.now ++ work.old) binders.old sp bound.ty bound.term bound.pairs bound.rows) (state_of base.entry.names.now (base.entry.words.now ++ work.old) env.old order.now fresh.tv fresh.dv) room.old.left) base.entry.names.now (base.entry.words.now ++ work.old) (base.entry.words.now ++ work.new)
+        env.new order.now binders.old binders.new room.old.top room.old.left sp bound.pairs bound.rows fresh.tv fresh.dv (generalized_of result room.new.top room.new.left) }
 {
+    let k = bound.pairs;
     let at = sp - 2 * k;
-    let s = scope::apply_env(base, work, names, env, order, top, left, at, k);
-    match s {
-        scope::Swept::Done(t2, l2) => rest(
-            base, work, names, classes, insts, order, env, binders, t2, l2, sp, tv, dv, k, m, t, e,
-        ),
-        scope::Swept::Refused(x, t2, l2) => Generalized::Refused(x, t2, l2),
-    }
+    scope::apply_env(base, work, room, env, order, Subst { at, k })?;
+    rest(
+        base,
+        work,
+        room,
+        rules,
+        Env { rows: env, order },
+        binders,
+        sp,
+        fresh,
+        bound,
+    )
 }

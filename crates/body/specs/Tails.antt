@@ -1,15 +1,14 @@
 -- A file section by section, from a place on to its end: what the definition reads there, and where it stands.
-use Rattle.std.specs.Prelude.{◌≡◌, List, [], ℕ, ◌+◌, ◌<◌, ◌≤◌, length, get_or}
+use Rattle.std.specs.Prelude.{◌≡◌, List, [], ℕ, ◌+◌, ◌<◌, ◌≤◌, length, get_or, Result, Ok, Err}
 use Rattle.meaning.specs.Base.{count}
 use Rattle.meaning.specs.Ast.{Ty, Expr, Decl}
 use Rattle.meaning.specs.Reader.{got, bad, Reader, ◌>>=◌, pure, from, section, end_of_file}
 use Rattle.meaning.specs.File.{File, type_node, expr_node, decl_entry}
 use Rattle.errors.specs.Refusals.{refusal_of}
+use Rattle.errors.specs.declared.Refusal.{Refusal}
 use Rattle.nodes.specs.declared.Counts.{Counts}
 use Rattle.nodes.specs.Known.{Before, Known}
 use Rattle.reader.specs.Placing.{Placed}
-use Rattle.body.specs.declared.Reading as Code
-use Rattle.body.specs.declared.Reading.TheVariants.{Good, Bad}
 
 -- What stands before, with these types or expressions.
 abbrev pub with_types : Before → List Ty → Before
@@ -61,21 +60,21 @@ pub record Types (bytes ix : List ℕ) (s : Before) (at b c d : ℕ) : Type 0 wh
   pub rest : Expressions bytes ix (with_types s types) end c d
 
 -- What an answer says of the rest of a file.
-abbrev pub DeclsAs : List ℕ → List ℕ → Counts → Before → ℕ → Code.Reading → Type 0
-DeclsAs bytes ix n s at (Good a b c d) = (a ≡ n.names) × (b ≡ n.types) × (c ≡ n.exprs) × Declarations bytes ix s at d
-DeclsAs bytes ix n s at (Bad e) = after_exprs s at (from at bytes) ≡ bad (refusal_of [] [] e)
+abbrev pub DeclsAs : List ℕ → List ℕ → Counts → Before → ℕ → Result Counts Refusal → Type 0
+DeclsAs bytes ix n s at (Ok m) = (m.names ≡ n.names) × (m.types ≡ n.types) × (m.exprs ≡ n.exprs) × Declarations bytes ix s at m.decls
+DeclsAs bytes ix n s at (Err e) = after_exprs s at (from at bytes) ≡ bad (refusal_of [] [] e)
 
-abbrev pub ExprsAs : List ℕ → List ℕ → Counts → Before → ℕ → Code.Reading → Type 0
-ExprsAs bytes ix n s at (Good a b c d) = (a ≡ n.names) × (b ≡ n.types) × Expressions bytes ix s at c d
-ExprsAs bytes ix n s at (Bad e) = after_types s at (from at bytes) ≡ bad (refusal_of [] [] e)
+abbrev pub ExprsAs : List ℕ → List ℕ → Counts → Before → ℕ → Result Counts Refusal → Type 0
+ExprsAs bytes ix n s at (Ok m) = (m.names ≡ n.names) × (m.types ≡ n.types) × Expressions bytes ix s at m.exprs m.decls
+ExprsAs bytes ix n s at (Err e) = after_types s at (from at bytes) ≡ bad (refusal_of [] [] e)
 
-abbrev pub TypesAs : List ℕ → List ℕ → Counts → Before → ℕ → Code.Reading → Type 0
-TypesAs bytes ix n s at (Good a b c d) = (a ≡ n.names) × Types bytes ix s at b c d
-TypesAs bytes ix n s at (Bad e) = after_names s at (from at bytes) ≡ bad (refusal_of [] [] e)
+abbrev pub TypesAs : List ℕ → List ℕ → Counts → Before → ℕ → Result Counts Refusal → Type 0
+TypesAs bytes ix n s at (Ok m) = (m.names ≡ n.names) × Types bytes ix s at m.types m.exprs m.decls
+TypesAs bytes ix n s at (Err e) = after_names s at (from at bytes) ≡ bad (refusal_of [] [] e)
 
 -- The index became ix', and changed from the word base up to the last place of a declaration only; the answer is right for
 -- whatever stands before.
-pub record GivesTail (As : List ℕ → List ℕ → Counts → Before → ℕ → Code.Reading → Type 0) (base : ℕ) (bytes ix ix' : List ℕ) (n : Counts) (at : ℕ) (r : Code.Reading) : Type 0 where
+pub record GivesTail (As : List ℕ → List ℕ → Counts → Before → ℕ → Result Counts Refusal → Type 0) (base : ℕ) (bytes ix ix' : List ℕ) (n : Counts) (at : ℕ) (r : Result Counts Refusal) : Type 0 where
   pub low : (j : ℕ) → j < base → get_or ix' j 0 ≡ get_or ix j 0
   pub high : (j : ℕ) → 10_752 ≤ j → get_or ix' j 0 ≡ get_or ix j 0
   pub is : (s : Before) → Known ix n s → As bytes ix' n s at r

@@ -21,8 +21,8 @@ use Rattle.cores.specs.Terms.{core, cores}
 use Rattle.cores.proofs.Parted.{parts_below}
 use Rattle.cores.proofs.TermLaws.{core_of}
 use Rattle.errors.specs.declared.Refusal.TheVariants.{Depth, Steps}
-use Rattle.apply.specs.declared.Applied.{Applied}
-use Rattle.apply.specs.declared.Applied.TheVariants.{Done, Refused}
+use Rattle.apply.specs.Applied.{Applied}
+use Rattle.apply.specs.Applied.{Done, Refused}
 use Rattle.rename.specs.Renaming.{Renames}
 use Rattle.rename.specs.Renamed.{ReadyRename, TypeRenamed}
 use Rattle.rename.proofs.Arms.{renames_then}
@@ -82,8 +82,8 @@ pub deep : {ns w ls : List ℕ} {top left t depth : ℕ} → ReadyLetters ns w l
 deep R h = refuses (λ s u. core_deep _ _ _ _ h) tt (omega arith)
 
 -- For want of steps.
-pub spent : {ns w ls : List ℕ} {top left t depth : ℕ} → ReadyLetters ns w ls top left t → (depth ≡ 0 → ⊥) → left ≡ 0 → GivesLettered core 4 ns ls w w top left (λ s. apply_core_in depth s (core ns w t) left) (Refused Steps top 0)
-spent R p h = refuses (λ s u. core_spent _ _ _ _ p h) tt (omega arith)
+pub spent : {ns w ls : List ℕ} {top left t depth : ℕ} → ReadyLetters ns w ls top left t → (depth ≡ 0 → ⊥) → left ≡ 0 → GivesLettered core 4 ns ls w w top left (λ s. apply_core_in depth s (core ns w t) left) (Refused Steps top left)
+spent R p h = refuses (λ s u. core_spent _ _ _ _ p h ∙ rw h) tt (omega arith)
 
 -- r is what `part_at` returned.
 module _ {ns w ls : List ℕ} {top left t depth : ℕ} (R : ReadyLetters ns w ls top left t) (dp : depth ≡ 0 → ⊥) (lp : left ≡ 0 → ⊥) {r : Part} (e : r ≡ part_of w t) where

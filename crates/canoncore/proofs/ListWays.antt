@@ -17,8 +17,8 @@ use Rattle.pairs.proofs.Frames.{pushed_stands}
 use Rattle.cores.specs.Terms.{core, cores}
 use Rattle.cores.proofs.TermLaws.{kept_core, kept_cores, cores_nil, cores_cons}
 use Rattle.cores.proofs.NewTerm.{push_cores}
-use Rattle.apply.specs.declared.Applied.{Applied}
-use Rattle.apply.specs.declared.Applied.TheVariants.{Done, Refused}
+use Rattle.apply.specs.Applied.{Applied}
+use Rattle.apply.specs.Applied.{Done, Refused}
 use Rattle.apply.proofs.Ways.{Room}
 use Rattle.canoncore.specs.Lettered.{Lettered, ReadyLetters, GivesLettered}
 use Rattle.terms.proofs.Handing.{Thens, made, fails, stays, two_refused, two_room, two_done}

@@ -26,10 +26,10 @@ use Rattle.supers.specs.Rows.{row_at, binders_in, TypeIn, NextIs, NextRow}
 use Rattle.supers.specs.declared.rows.Row.{Row}
 use Rattle.supers.specs.declared.rows.Row.TheVariants.{Pending, Replaced}
 use Rattle.supers.specs.declared.Given.{Given}
-use Rattle.supers.specs.declared.Given.TheVariants.{One, Nothing}
+use Rattle.std.specs.Prelude.{Option, Some, None}
 use Rattle.supers.proofs.RowLaws.{rows_end, row_pending, row_passed, kept_rows}
-use Rattle.apply.specs.declared.Applied.{Applied}
-use Rattle.apply.specs.declared.Applied.TheVariants.{Done, Refused}
+use Rattle.apply.specs.Applied.{Applied}
+use Rattle.apply.specs.Applied.{Done, Refused}
 use Rattle.apply.proofs.Ways.{Room}
 use Rattle.rename.specs.Renamed.{TypeRenamed}
 use Rattle.terms.proofs.Handing.{Thens, onward, made, fails, stays, refuses, two_refused, two_room, two_done}
@@ -149,8 +149,8 @@ module _ {ns w bs ls : List ℕ} {top left n e : ℕ} (R : ReadyRows ns w bs ls 
   rows_less h = let o = R.room in record { names = R.names; table = R.table; rows = R.rows; small = R.small; few = R.few; room = omega arith }
 
   -- No step is left.
-  pub rows_spent : left ≡ 0 → GivesLettered core 4 ns ls w w top left (λ s. apply_core_in 256 s (dict_abs (binders_in ns w bs 0 n) (core ns w e)) left) (Refused Steps top 0)
-  rows_spent h = refuses (λ s u. core_spent 256 _ _ _ (λ z. omega arith) h) tt (omega arith)
+  pub rows_spent : left ≡ 0 → GivesLettered core 4 ns ls w w top left (λ s. apply_core_in 256 s (dict_abs (binders_in ns w bs 0 n) (core ns w e)) left) (Refused Steps top left)
+  rows_spent h = refuses (λ s u. core_spent 256 _ _ _ (λ z. omega arith) h ∙ rw h) tt (omega arith)
 
   -- One step, then the binders and the term.
   pub rows_stepped : {w₁ : List ℕ} {r : Applied} → (left ≡ 0 → ⊥) → GivesLettered core 0 ns ls w w₁ top (left - 1) (λ s. node_out 255 (left - 1) s (dict_abs (binders_in ns w bs 0 n) (core ns w e))) r
@@ -158,17 +158,17 @@ module _ {ns w bs ls : List ℕ} {top left n e : ℕ} (R : ReadyRows ns w bs ls 
   rows_stepped lp G = onward G (record { at = λ s u. core_step 256 left s _ (λ z. omega arith) lp }) (omega arith) (omega arith) (omega arith)
 
   -- g is what `next_row` returned.
-  module _ {g : Given} (X : NextRow bs 0 n g) {w₁ : List ℕ} {r : Applied} where
+  module _ {g : Option Given} (X : NextRow bs 0 n g) {w₁ : List ℕ} {r : Applied} where
     -- No row is pending.
-    pub whole_none : g ≡ Nothing → GivesLettered core 4 ns ls w w₁ top left (λ s. apply_core_in 256 s (core ns w e) left) r
+    pub whole_none : g ≡ None → GivesLettered core 4 ns ls w w₁ top left (λ s. apply_core_in 256 s (core ns w e) left) r
         → GivesLettered core 4 ns ls w w₁ top left (λ s. apply_core_in 256 s (abstracted (binders_in ns w bs 0 n) (core ns w e)) left) r
     unfolding abstracted
     whole_none k G = let h : (ns w : List ℕ) → binders_in ns w bs 0 n ≡ [] = rw k at X.says in
         onward G (record { at = λ s u. rw (h ns w) }) (omega arith) (omega arith) (omega arith)
 
     -- Some row is.
-    pub whole_some : {a c u z : ℕ} → g ≡ One a c u z → GivesLettered core 4 ns ls w w₁ top left (λ s. apply_core_in 256 s (dict_abs (binders_in ns w bs 0 n) (core ns w e)) left) r
+    pub whole_some : {v : Given} → g ≡ Some v → GivesLettered core 4 ns ls w w₁ top left (λ s. apply_core_in 256 s (dict_abs (binders_in ns w bs 0 n) (core ns w e)) left) r
         → GivesLettered core 4 ns ls w w₁ top left (λ s. apply_core_in 256 s (abstracted (binders_in ns w bs 0 n) (core ns w e)) left) r
     unfolding abstracted
-    whole_some {a} {c} {u} {z} k G = let h : NextIs bs 0 n a c u z = rw k at X.says in
-        onward G (record { at = λ s v. rw (h.is ns w ∙ row_pending ns w bs h.at n h.below h.row) }) (omega arith) (omega arith) (omega arith)
+    whole_some {v} k G = let h : NextIs bs 0 n v.dict v.class v.ty v.rest = rw k at X.says in
+        onward G (record { at = λ s u. rw (h.is ns w ∙ row_pending ns w bs h.at n h.below h.row) }) (omega arith) (omega arith) (omega arith)

@@ -21,8 +21,8 @@ use Rattle.cores.specs.Terms.{core}
 use Rattle.cores.proofs.BinderLaws.{kept_binders, binders_nil, binders_cons}
 use Rattle.cores.proofs.NewTerm.{four_stands, push_record, push_binder}
 use Rattle.subst.specs.Preds.{class_at, pushed_pred}
-use Rattle.apply.specs.declared.Applied.{Applied}
-use Rattle.apply.specs.declared.Applied.TheVariants.{Done, Refused}
+use Rattle.apply.specs.Applied.{Applied}
+use Rattle.apply.specs.Applied.{Done, Refused}
 use Rattle.apply.proofs.Ways.{Room}
 use Rattle.rename.specs.Renamed.{TypeRenamed}
 use Rattle.terms.proofs.Handing.{Thens, made, fails, stays, one_room, one_done, two_refused, two_room, two_done}

@@ -18,8 +18,8 @@ use Rattle.cores.specs.Terms.{core, cores}
 use Rattle.cores.proofs.BinderLaws.{kept_binders}
 use Rattle.cores.proofs.TermLaws.{kept_core, kept_cores}
 use Rattle.cores.proofs.NewTerm.{four_stands, push_function, push_called, push_bound, push_under, push_applied, push_selected, push_super}
-use Rattle.apply.specs.declared.Applied.{Applied}
-use Rattle.apply.specs.declared.Applied.TheVariants.{Done, Refused}
+use Rattle.apply.specs.Applied.{Applied}
+use Rattle.apply.specs.Applied.{Done, Refused}
 use Rattle.apply.proofs.Ways.{Room}
 use Rattle.terms.proofs.Handing.{Thens, made, fails, one_room, one_done, two_refused, two_room, two_done}
 use Rattle.canoncore.specs.Lettered.{Lettered, ReadyLetters, GivesLettered, node_out}

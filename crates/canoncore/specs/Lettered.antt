@@ -7,7 +7,7 @@ use Rattle.meaning.specs.Cores.{apply_core_node, apply_core_in}
 use Rattle.names.specs.Names.{Names}
 use Rattle.ast.specs.Table.{Node}
 use Rattle.rename.specs.Renaming.{Renames}
-use Rattle.apply.specs.declared.Applied.{Applied}
+use Rattle.apply.specs.Applied.{Applied}
 use Rattle.terms.specs.Answers.{GivesFor}
 
 -- The substitution makes the i-th of the words ls the i-th letter, and nothing else. No list is asked, so that the words do

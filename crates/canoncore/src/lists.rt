@@ -3,45 +3,33 @@ ghost use Rattle.std.specs.Prelude.{◌++◌, ◌+◌, ◌*◌, ◌≤◌, lengt
 ghost use Rattle.meaning.specs.Cores.{each_core, apply_core_in};
 ghost use Rattle.cores.specs.Terms.{cores};
 ghost use Rattle.canoncore.specs.Lettered.{ReadyLetters, GivesLettered};
+ghost use Rattle.apply.specs.Applied.{applied_of};
 
-use apply::Applied;
-use ast::Cell;
+use ast::{Base, Cell, Room};
+use errors::Refusal;
 
 // The same at each term of the list v, left to right.
 #[cycle(in_abs_in_call_in_dict_abs_in_dict_app_in_let_in_method_in_super_in_each_rename_core)]
 pub fn in_each(
-    base: &[u64],
+    base: Base,
     work: &mut [u64],
-    names: &[u64],
+    room: &mut Room,
     letters: &[u64],
-    top: usize,
-    left: usize,
     depth: usize,
     v: usize,
-) -> Applied
-    requires base_len_bound { length base.now ≤ 4 * top }
-    requires ready_letters { ReadyLetters names.now (base.now ++ work.old) letters.now top left v }
-    ensures { GivesLettered cores 0 names.now letters.now (base.now ++ work.old) (base.now ++ work.new) top left
-        (λ s. each_core (apply_core_in depth s) (cores names.now (base.now ++ work.old) v) left) result }
+) -> Result<usize, Refusal>
+    requires base_len_bound { length base.words.now ≤ 4 * room.old.top }
+    requires ready_letters { ReadyLetters base.names.now (base.words.now ++ work.old) letters.now room.old.top room.old.left v }
+    ensures { GivesLettered cores 0 base.entry.names.now letters.now (base.entry.words.now ++ work.old) (base.entry.words.now ++ work.new) room.old.top room.old.left
+        (λ s. each_core (apply_core_in depth s) (cores base.entry.names.now (base.entry.words.now ++ work.old) v) room.old.left) (applied_of result room.new.top room.new.left) }
 {
     let c = ast::cell_at(base, work, v);
     match c {
-        Cell::Nil => Applied::Done(v, top, left),
+        Cell::Nil => Ok(v),
         Cell::Cons(a, b) => {
-            let r = crate::rename_core(base, work, names, letters, top, left, depth, a);
-            match r {
-                Applied::Done(m, t2, l2) => {
-                    let q = in_each(base, work, names, letters, t2, l2, depth, b);
-                    match q {
-                        Applied::Done(m2, t3, l3) => {
-                            ast::push(base, work, t3, 3, m, m2);
-                            Applied::Done(names::NODE + t3, t3 + 1, l3)
-                        }
-                        Applied::Refused(u, t3, l3) => Applied::Refused(u, t3, l3),
-                    }
-                }
-                Applied::Refused(u, t2, l2) => Applied::Refused(u, t2, l2),
-            }
+            let m = crate::rename_core(base, work, room, letters, depth, a)?;
+            let m2 = in_each(base, work, room, letters, depth, b)?;
+            Ok(ast::add(base, work, room, ast::CONS, m, m2))
         }
     }
 }

@@ -10,137 +10,105 @@ ghost use Rattle.cores.specs.Terms.{core};
 ghost use Rattle.supers.specs.Rows.{binders_in};
 ghost use Rattle.canoncore.specs.Lettered.{GivesLettered, node_out};
 ghost use Rattle.canoncore.specs.RowsReady.{ReadyRows};
+ghost use Rattle.apply.specs.Applied.{applied_of};
 
-use apply::Applied;
-use errors::Refusal;
-use supers::Given;
+use ast::{Base, Room};
+use errors::{DEPTH, Refusal};
 use supers::rows::Row;
-
-// How deep a walk may go.
-const DEPTH: usize = 256;
 
 // The pending rows from number j up to number n as a list of binders, their types renamed.
 fn rows_from(
-    base: &[u64],
+    base: Base,
     work: &mut [u64],
-    names: &[u64],
+    room: &mut Room,
     letters: &[u64],
     binders: &[u64],
-    top: usize,
-    left: usize,
     j: usize,
     n: usize,
-) -> Applied
-    requires base_len_bound { length base.now ≤ 4 * top }
-    requires ready_rows { ReadyRows names.now (base.now ++ work.old) binders.now letters.now top left n }
+) -> Result<usize, Refusal>
+    requires base_len_bound { length base.words.now ≤ 4 * room.old.top }
+    requires ready_rows { ReadyRows base.names.now (base.words.now ++ work.old) binders.now letters.now room.old.top room.old.left n }
     requires j_le_n { j ≤ n }
-    ensures { GivesLettered binders_of_word 0 names.now letters.now (base.now ++ work.old) (base.now ++ work.new) top left
-        (λ s. apply_preds_pending s (binders_in names.now (base.now ++ work.old) binders.now j n) left) result }
+    ensures { GivesLettered binders_of_word 0 base.entry.names.now letters.now (base.entry.words.now ++ work.old) (base.entry.words.now ++ work.new) room.old.top room.old.left
+        (λ s. apply_preds_pending s (binders_in base.entry.names.now (base.entry.words.now ++ work.old) binders.now j n) room.old.left) (applied_of result room.new.top room.new.left) }
 {
     if j == n {
-        return Applied::Done(ast::NIL, top, left);
+        return Ok(ast::NIL);
     }
     let w = supers::rows::row_at(binders, j);
     match w {
-        Row::Replaced(_, _) => rows_from(base, work, names, letters, binders, top, left, j + 1, n),
+        Row::Replaced(_, _) => rows_from(base, work, room, letters, binders, j + 1, n),
         Row::Pending(d, c, t) => {
-            let r = rename::rename(base, work, names, letters, top, left, DEPTH, ast::NIL, 0, t);
-            match r {
-                Applied::Done(m, t2, l2) => {
-                    let q = rows_from(base, work, names, letters, binders, t2, l2, j + 1, n);
-                    match q {
-                        Applied::Done(m2, t3, l3) => {
-                            subst::push_pred(base, work, t3, 65536 * d + c, m, m2);
-                            Applied::Done(names::NODE + t3, t3 + 1, l3)
-                        }
-                        Applied::Refused(u, t3, l3) => Applied::Refused(u, t3, l3),
-                    }
-                }
-                Applied::Refused(u, t2, l2) => Applied::Refused(u, t2, l2),
-            }
+            let m = rename::rename(base, work, room, letters, DEPTH, ast::NIL, 0, t)?;
+            let m2 = rows_from(base, work, room, letters, binders, j + 1, n)?;
+            Ok(subst::add_pred(base, work, room, 65536 * d + c, m, m2))
         }
     }
 }
 
 // The term e under the binders of the first n rows, after its own step.
 fn in_rows(
-    base: &[u64],
+    base: Base,
     work: &mut [u64],
-    names: &[u64],
+    room: &mut Room,
     letters: &[u64],
     binders: &[u64],
-    top: usize,
-    left: usize,
     n: usize,
     e: usize,
-) -> Applied
-    requires base_len_bound { length base.now ≤ 4 * top }
-    requires ready_rows { ReadyRows names.now (base.now ++ work.old) binders.now letters.now top left n }
-    requires node { Node (base.now ++ work.old) top e }
-    ensures { GivesLettered core 0 names.now letters.now (base.now ++ work.old) (base.now ++ work.new) top left
-        (λ s. node_out 255 left s (dict_abs (binders_in names.now (base.now ++ work.old) binders.now 0 n) (core names.now (base.now ++ work.old) e))) result }
+) -> Result<usize, Refusal>
+    requires base_len_bound { length base.words.now ≤ 4 * room.old.top }
+    requires ready_rows { ReadyRows base.names.now (base.words.now ++ work.old) binders.now letters.now room.old.top room.old.left n }
+    requires node { Node (base.words.now ++ work.old) room.old.top e }
+    ensures { GivesLettered core 0 base.entry.names.now letters.now (base.entry.words.now ++ work.old) (base.entry.words.now ++ work.new) room.old.top room.old.left
+        (λ s. node_out 255 room.old.left s (dict_abs (binders_in base.entry.names.now (base.entry.words.now ++ work.old) binders.now 0 n) (core base.entry.names.now (base.entry.words.now ++ work.old) e))) (applied_of result room.new.top room.new.left) }
 {
-    let r = rows_from(base, work, names, letters, binders, top, left, 0, n);
-    match r {
-        Applied::Done(m, t2, l2) => {
-            let q = crate::rename_core(base, work, names, letters, t2, l2, DEPTH - 1, e);
-            match q {
-                Applied::Done(m2, t3, l3) => {
-                    cores::push_dict_abs(base, work, t3, m, m2);
-                    Applied::Done(names::NODE + t3, t3 + 1, l3)
-                }
-                Applied::Refused(u, t3, l3) => Applied::Refused(u, t3, l3),
-            }
-        }
-        Applied::Refused(u, t2, l2) => Applied::Refused(u, t2, l2),
-    }
+    let m = rows_from(base, work, room, letters, binders, 0, n)?;
+    let m2 = crate::rename_core(base, work, room, letters, DEPTH - 1, e)?;
+    Ok(cores::push_dict_abs(base, work, room, m, m2))
 }
 
 // The same with its step.
 fn under_rows(
-    base: &[u64],
+    base: Base,
     work: &mut [u64],
-    names: &[u64],
+    room: &mut Room,
     letters: &[u64],
     binders: &[u64],
-    top: usize,
-    left: usize,
     n: usize,
     e: usize,
-) -> Applied
-    requires base_len_bound { length base.now ≤ 4 * top }
-    requires ready_rows { ReadyRows names.now (base.now ++ work.old) binders.now letters.now top left n }
-    requires node { Node (base.now ++ work.old) top e }
-    ensures { GivesLettered core 4 names.now letters.now (base.now ++ work.old) (base.now ++ work.new) top left
-        (λ s. apply_core_in 256 s (dict_abs (binders_in names.now (base.now ++ work.old) binders.now 0 n) (core names.now (base.now ++ work.old) e)) left) result }
+) -> Result<usize, Refusal>
+    requires base_len_bound { length base.words.now ≤ 4 * room.old.top }
+    requires ready_rows { ReadyRows base.names.now (base.words.now ++ work.old) binders.now letters.now room.old.top room.old.left n }
+    requires node { Node (base.words.now ++ work.old) room.old.top e }
+    ensures { GivesLettered core 4 base.entry.names.now letters.now (base.entry.words.now ++ work.old) (base.entry.words.now ++ work.new) room.old.top room.old.left
+        (λ s. apply_core_in 256 s (dict_abs (binders_in base.entry.names.now (base.entry.words.now ++ work.old) binders.now 0 n) (core base.entry.names.now (base.entry.words.now ++ work.old) e)) room.old.left) (applied_of result room.new.top room.new.left) }
 {
-    if left == 0 {
-        return Applied::Refused(Refusal::Steps, top, 0);
+    if room.left == 0 {
+        return Err(Refusal::Steps);
     }
-    in_rows(base, work, names, letters, binders, top, left - 1, n, e)
+    room.left -= 1;
+    in_rows(base, work, room, letters, binders, n, e)
 }
 
 // `apply_subst_to_core` of the term e under the binders of the first n rows, for every substitution that makes words letters.
 pub fn rename_abstracted(
-    base: &[u64],
+    base: Base,
     work: &mut [u64],
-    names: &[u64],
+    room: &mut Room,
     letters: &[u64],
     binders: &[u64],
-    top: usize,
-    left: usize,
     n: usize,
     e: usize,
-) -> Applied
-    requires base_len_bound { length base.now ≤ 4 * top }
-    requires ready_rows { ReadyRows names.now (base.now ++ work.old) binders.now letters.now top left n }
-    requires node { Node (base.now ++ work.old) top e }
-    ensures { GivesLettered core 4 names.now letters.now (base.now ++ work.old) (base.now ++ work.new) top left
-        (λ s. apply_core_in 256 s (abstracted (binders_in names.now (base.now ++ work.old) binders.now 0 n) (core names.now (base.now ++ work.old) e)) left) result }
+) -> Result<usize, Refusal>
+    requires base_len_bound { length base.words.now ≤ 4 * room.old.top }
+    requires ready_rows { ReadyRows base.names.now (base.words.now ++ work.old) binders.now letters.now room.old.top room.old.left n }
+    requires node { Node (base.words.now ++ work.old) room.old.top e }
+    ensures { GivesLettered core 4 base.entry.names.now letters.now (base.entry.words.now ++ work.old) (base.entry.words.now ++ work.new) room.old.top room.old.left
+        (λ s. apply_core_in 256 s (abstracted (binders_in base.entry.names.now (base.entry.words.now ++ work.old) binders.now 0 n) (core base.entry.names.now (base.entry.words.now ++ work.old) e)) room.old.left) (applied_of result room.new.top room.new.left) }
 {
     let g = supers::rows::next_row(binders, 0, n);
     match g {
-        Given::One(_, _, _, _) => under_rows(base, work, names, letters, binders, top, left, n, e),
-        Given::Nothing => crate::rename_core(base, work, names, letters, top, left, DEPTH, e),
+        Some(_) => under_rows(base, work, room, letters, binders, n, e),
+        None => crate::rename_core(base, work, room, letters, DEPTH, e),
     }
 }

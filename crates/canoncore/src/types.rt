@@ -7,74 +7,52 @@ ghost use Rattle.ast.specs.Table.{tree};
 ghost use Rattle.cores.specs.Binders.{binders_of_word};
 ghost use Rattle.cores.specs.Terms.{core};
 ghost use Rattle.canoncore.specs.Lettered.{ReadyLetters, GivesLettered, node_out};
+ghost use Rattle.apply.specs.Applied.{applied_of};
 
-use apply::Applied;
-use ast::Cell;
-
-// How deep a walk over a type may go.
-const DEPTH: usize = 256;
+use ast::{Base, Cell, Room};
+use errors::{DEPTH, Refusal};
+use pairs::Subst;
 
 // The record of instance i, of the class c at the type u: the type is renamed.
 pub fn in_rec(
-    base: &[u64],
+    base: Base,
     work: &mut [u64],
-    names: &[u64],
+    room: &mut Room,
     letters: &[u64],
-    top: usize,
-    left: usize,
     c: usize,
     u: usize,
     i: usize,
-) -> Applied
-    requires base_len_bound { length base.now ≤ 4 * top }
-    requires ready_letters { ReadyLetters names.now (base.now ++ work.old) letters.now top left u }
-    ensures { GivesLettered core 0 names.now letters.now (base.now ++ work.old) (base.now ++ work.new) top left
-        (λ s. node_out 0 left s (dict_rec (name_of names.now c) (tree names.now (base.now ++ work.old) u) i)) result }
+) -> Result<usize, Refusal>
+    requires base_len_bound { length base.words.now ≤ 4 * room.old.top }
+    requires ready_letters { ReadyLetters base.names.now (base.words.now ++ work.old) letters.now room.old.top room.old.left u }
+    ensures { GivesLettered core 0 base.entry.names.now letters.now (base.entry.words.now ++ work.old) (base.entry.words.now ++ work.new) room.old.top room.old.left
+        (λ s. node_out 0 room.old.left s (dict_rec (name_of base.entry.names.now c) (tree base.entry.names.now (base.entry.words.now ++ work.old) u) i)) (applied_of result room.new.top room.new.left) }
 {
-    let r = rename::rename(base, work, names, letters, top, left, DEPTH, ast::NIL, 0, u);
-    match r {
-        Applied::Done(m, t2, l2) => {
-            cores::push_rec(base, work, t2, c, m, i);
-            Applied::Done(names::NODE + t2, t2 + 1, l2)
-        }
-        Applied::Refused(q, t2, l2) => Applied::Refused(q, t2, l2),
-    }
+    let m = rename::rename(base, work, room, letters, DEPTH, ast::NIL, 0, u)?;
+    Ok(cores::push_rec(base, work, room, c, m, i))
 }
 
 // The types of the binders of the list v are renamed, left to right.
 pub fn rename_binders(
-    base: &[u64],
+    base: Base,
     work: &mut [u64],
-    names: &[u64],
+    room: &mut Room,
     letters: &[u64],
-    top: usize,
-    left: usize,
     v: usize,
-) -> Applied
-    requires base_len_bound { length base.now ≤ 4 * top }
-    requires ready_letters { ReadyLetters names.now (base.now ++ work.old) letters.now top left v }
-    ensures { GivesLettered binders_of_word 0 names.now letters.now (base.now ++ work.old) (base.now ++ work.new) top left
-        (λ s. apply_preds_pending s (binders_of_word names.now (base.now ++ work.old) v) left) result }
+) -> Result<usize, Refusal>
+    requires base_len_bound { length base.words.now ≤ 4 * room.old.top }
+    requires ready_letters { ReadyLetters base.names.now (base.words.now ++ work.old) letters.now room.old.top room.old.left v }
+    ensures { GivesLettered binders_of_word 0 base.entry.names.now letters.now (base.entry.words.now ++ work.old) (base.entry.words.now ++ work.new) room.old.top room.old.left
+        (λ s. apply_preds_pending s (binders_of_word base.entry.names.now (base.entry.words.now ++ work.old) v) room.old.left) (applied_of result room.new.top room.new.left) }
 {
     let c = ast::cell_at(base, work, v);
     match c {
-        Cell::Nil => Applied::Done(v, top, left),
+        Cell::Nil => Ok(v),
         Cell::Cons(a, b) => {
             let x = subst::class_at(base, work, v);
-            let r = rename::rename(base, work, names, letters, top, left, DEPTH, ast::NIL, 0, a);
-            match r {
-                Applied::Done(m, t2, l2) => {
-                    let q = rename_binders(base, work, names, letters, t2, l2, b);
-                    match q {
-                        Applied::Done(m2, t3, l3) => {
-                            subst::push_pred(base, work, t3, x, m, m2);
-                            Applied::Done(names::NODE + t3, t3 + 1, l3)
-                        }
-                        Applied::Refused(u, t3, l3) => Applied::Refused(u, t3, l3),
-                    }
-                }
-                Applied::Refused(u, t2, l2) => Applied::Refused(u, t2, l2),
-            }
+            let m = rename::rename(base, work, room, letters, DEPTH, ast::NIL, 0, a)?;
+            let m2 = rename_binders(base, work, room, letters, b)?;
+            Ok(subst::add_pred(base, work, room, x, m, m2))
         }
     }
 }

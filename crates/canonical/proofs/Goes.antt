@@ -23,8 +23,8 @@ use Rattle.supers.specs.Rows.{row_at, with_row, binders_from, binders_in, HasWor
 use Rattle.supers.proofs.RowLaws.{row_step, rows_end, kept_rows}
 use Rattle.simplify.proofs.RowSets.{same_rows, binders_split, binders_snoc}
 use Rattle.canonical.specs.Rows.{leaves_preds, ReadyRename, Letters, RowDone, RenamesRow, GivesRows}
-use Rattle.canonical.specs.declared.renamed.Rows.{Rows}
-use Rattle.canonical.specs.declared.renamed.Rows.TheVariants.{Done, Refused}
+use Rattle.canonical.specs.Rows.{Rows}
+use Rattle.canonical.specs.Rows.{Done, Refused}
 use Rattle.canonical.proofs.Turns.{after_same, after_both, after_ext, letters_same}
 
 -- The words were w₀ and the rows bs₀: up to row i they are renamed.

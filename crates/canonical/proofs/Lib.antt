@@ -11,3 +11,4 @@ pub mod NewNames
 pub mod Images
 pub mod Fewer
 pub mod SameLeaves
+pub mod Seen

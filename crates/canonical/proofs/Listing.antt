@@ -15,7 +15,7 @@ use Rattle.ast.proofs.Laws.{kept_tree, low_node, node_more}
 use Rattle.errors.specs.declared.Refusal.{Refusal}
 use Rattle.pairs.specs.Pairs.{Stands}
 use Rattle.pairs.proofs.Frames.{stands_refl, stands_then, stands_up}
-use Rattle.apply.specs.declared.Applied.TheVariants.{Done as Made, Refused as Not-made}
+use Rattle.apply.specs.Applied.{Done as Made, Refused as Not-made}
 use Rattle.subst.specs.Preds.{preds_of_word, pushed_pred}
 use Rattle.subst.proofs.PredLaws.{low_preds, pred_stands, push_preds}
 use Rattle.supers.specs.declared.rows.Row.{Row}
@@ -24,8 +24,8 @@ use Rattle.supers.specs.Rows.{row_at, binders_in, TypeIn, Binders}
 use Rattle.supers.proofs.RowLaws.{row_pending, row_passed, rows_end, kept_rows}
 use Rattle.simplify.proofs.RowSets.{binders_split}
 use Rattle.canonical.specs.Rows.{ReadyRename, RowsDone, GivesRows, ReadyList, Preds, GivesRenamed}
-use Rattle.canonical.specs.declared.renamed.Rows.{Rows}
-use Rattle.canonical.specs.declared.renamed.Rows.TheVariants.{Done, Refused}
+use Rattle.canonical.specs.Rows.{Rows}
+use Rattle.canonical.specs.Rows.{Done, Refused}
 use Rattle.canonical.proofs.Goes.{type_later, count_both}
 
 -- Rows of a grown table.

@@ -19,7 +19,7 @@ use Rattle.theorems.proofs.Applied.{apply_says, preds_say}
 use Rattle.names.specs.Names.{Names, tyvar_of}
 use Rattle.names.proofs.Distinct.{tyvar_of_same}
 use Rattle.ast.specs.Table.{nil_word, tree}
-use Rattle.apply.specs.declared.Applied.TheVariants.{Done as Made}
+use Rattle.apply.specs.Applied.{Done as Made}
 use Rattle.subst.specs.Preds.{preds_of_word}
 use Rattle.supers.specs.Rows.{binders_in}
 use Rattle.rename.specs.Renaming.{pos_at, or_word, renamed_word, leaves, leaves_list}

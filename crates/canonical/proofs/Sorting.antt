@@ -29,8 +29,7 @@ use Rattle.subst.proofs.PredLaws.{kept_preds, preds_types}
 use Rattle.scope.specs.Scope.{env_of}
 use Rattle.scope.proofs.Laws.{scope_kept, env_kept}
 use Rattle.canonical.specs.Picks.{Under, Last}
-use Rattle.canonical.specs.declared.Pick.{Pick}
-use Rattle.canonical.specs.declared.Pick.TheVariants.{Nothing, Word}
+use Rattle.std.specs.Prelude.{Option, Some, None}
 use Rattle.canonical.specs.Named.{list_qual, bound, free_in, ReadyType, ReadyVars, Sorted}
 use Rattle.canonical.proofs.Bytes.{InBytes, Ends, ends_with, sort_bytes, sort_count}
 use Rattle.canonical.proofs.Lasts.{last_same, last_then}
@@ -51,13 +50,13 @@ preds_occur {w} {top} {l} ns v N =
     ∙ elem-ftv_preds v (preds_of_word ns w l) [] ∙ or_none (occurs_preds v (preds_of_word ns w l))
 
 -- The predicates, then the type.
-pub last_qual : {w : List ℕ} {top ps : ℕ} {ns : List ℕ} {E : List TyVar} {last m r : Pick} (t : ℕ) → Node w top ps → Last ns E (λ v. occurs_in v (list ns w ps)) top last Nothing m
-    → Last ns E (λ v. occurs v (tree ns w t)) top last m r → Last ns E (λ v. occurs_qual v (list_qual ns w ps t)) top last Nothing r
+pub last_qual : {w : List ℕ} {top ps : ℕ} {ns : List ℕ} {E : List TyVar} {last m r : Option ℕ} (t : ℕ) → Node w top ps → Last ns E (λ v. occurs_in v (list ns w ps)) top last None m
+    → Last ns E (λ v. occurs v (tree ns w t)) top last m r → Last ns E (λ v. occurs_qual v (list_qual ns w ps t)) top last None r
 last_qual {w} {ps = ps} {ns = ns} t N A B = last_then (last_same (λ v. occurs_in v (list ns w ps)) (λ v. occurs_preds v (preds_of_word ns w ps)) (λ v. preds_occur ns v N) A) B
 
 -- ## what is still ahead
 -- The sorted variables are some, which lie before `last`, and then those that were found.
-pub record Ahead (ns : List ℕ) (vs : List TyVar) (last : Pick) (behind : List TyVar) : Type 0 where
+pub record Ahead (ns : List ℕ) (vs : List TyVar) (last : Option ℕ) (behind : List TyVar) : Type 0 where
   pub front : List TyVar
   pub is : sort_by tyvar_before vs ≡ front ++ behind
   pub bytes : InBytes front
@@ -65,7 +64,7 @@ pub record Ahead (ns : List ℕ) (vs : List TyVar) (last : Pick) (behind : List 
   pub covers : (v : TyVar) → elem tyvars v vs ≡ true → Under ns last v → elem tyvars v front ≡ true
 
 -- At first all are.
-pub all_ahead : (ns : List ℕ) (vs : List TyVar) → Once vs → Ahead ns vs Nothing []
+pub all_ahead : (ns : List ℕ) (vs : List TyVar) → Once vs → Ahead ns vs None []
 all_ahead ns vs o = record {
   front = sort_by tyvar_before vs;
   is = sym (append-nil (sort_by tyvar_before vs));
@@ -75,16 +74,16 @@ all_ahead ns vs o = record {
 }
 
 -- What lies before one that lies before the picked one lies before that.
-under_trans : (ns : List ℕ) (p : Pick) (v x : TyVar) → tyvar_before v x ≡ true → Under ns p x → Under ns p v
-under_trans ns Nothing v x b u = tt
-under_trans ns (Word y) v x b u = tyvars_ordered.trans v x (tyvar_of ns y) b u
+under_trans : (ns : List ℕ) (p : Option ℕ) (v x : TyVar) → tyvar_before v x ≡ true → Under ns p x → Under ns p v
+under_trans ns None v x b u = tt
+under_trans ns (Some y) v x b u = tyvars_ordered.trans v x (tyvar_of ns y) b u
 
 -- The last one of those ahead is put before those that were found.
-pub ahead_on : {ns : List ℕ} {vs behind : List TyVar} {last : Pick} (x : ℕ) → Ahead ns vs last behind → elem tyvars (tyvar_of ns x) vs ≡ true → Under ns last (tyvar_of ns x)
-    → ((v : TyVar) → elem tyvars v vs ≡ true → Under ns last v → tyvar_before (tyvar_of ns x) v ≡ false) → Ahead ns vs (Word x) (tyvar_of ns x ∷ behind)
+pub ahead_on : {ns : List ℕ} {vs behind : List TyVar} {last : Option ℕ} (x : ℕ) → Ahead ns vs last behind → elem tyvars (tyvar_of ns x) vs ≡ true → Under ns last (tyvar_of ns x)
+    → ((v : TyVar) → elem tyvars v vs ≡ true → Under ns last v → tyvar_before (tyvar_of ns x) v ≡ false) → Ahead ns vs (Some x) (tyvar_of ns x ∷ behind)
 ahead_on {ns} {vs} {behind} {last} x A e u h = go (ends_with A.front (tyvar_of ns x) A.bytes (A.covers (tyvar_of ns x) e u) (λ v i. let k = A.inside v i in h v k.0 k.1))
   where
-    go : Ends A.front (tyvar_of ns x) → Ahead ns vs (Word x) (tyvar_of ns x ∷ behind)
+    go : Ends A.front (tyvar_of ns x) → Ahead ns vs (Some x) (tyvar_of ns x ∷ behind)
     go G = record {
       front = G.front;
       is = A.is ∙ ap (λ (us : List TyVar). us ++ behind) G.is ∙ append_assoc G.front (tyvar_of ns x ∷ []) behind;
@@ -94,7 +93,7 @@ ahead_on {ns} {vs} {behind} {last} x A e u h = go (ends_with A.front (tyvar_of n
     }
 
 -- None is ahead: those that were found are all.
-pub none_ahead : {ns : List ℕ} {vs behind : List TyVar} {last : Pick} → Ahead ns vs last behind → ((v : TyVar) → elem tyvars v vs ≡ true → Under ns last v → ⊥) → sort_by tyvar_before vs ≡ behind
+pub none_ahead : {ns : List ℕ} {vs behind : List TyVar} {last : Option ℕ} → Ahead ns vs last behind → ((v : TyVar) → elem tyvars v vs ≡ true → Under ns last v → ⊥) → sort_by tyvar_before vs ≡ behind
 none_ahead {ns} {vs} {behind} {last} A h = A.is ∙ ap (λ (us : List TyVar). us ++ behind) (go A.front A.inside)
   where
     go : (us : List TyVar) → ((v : TyVar) → elem tyvars v us ≡ true → (elem tyvars v vs ≡ true) × Under ns last v) → us ≡ []
@@ -108,7 +107,7 @@ count_both [] vs = omega arith
 count_both (u ∷ us) vs = let ih = count_both us vs in omega arith
 
 -- Those that were found are no more than all.
-pub ahead_few : {ns : List ℕ} {vs behind : List TyVar} {last : Pick} → Ahead ns vs last behind → count behind ≤ count vs
+pub ahead_few : {ns : List ℕ} {vs behind : List TyVar} {last : Option ℕ} → Ahead ns vs last behind → count behind ≤ count vs
 ahead_few {ns} {vs} {behind} A =
     let e : count vs ≡ count A.front + count behind = sym (sort_count tyvar_before vs) ∙ ap count A.is ∙ count_both A.front behind in
     omega arith
@@ -125,7 +124,7 @@ bound_parts v q env e =
     unnot false e = refl
 
 -- The words were w and are w', with n nodes: the list l has those that were found.
-pub record Sorting (ns w w' ev od : List ℕ) (top ps t l n : ℕ) (last : Pick) : Type 0 where
+pub record Sorting (ns w w' ev od : List ℕ) (top ps t l n : ℕ) (last : Option ℕ) : Type 0 where
   pub ready : ReadyType ns w' ev od n t
   pub preds : Node w' n ps
   pub same_env : env_of ns w' ev od ≡ env_of ns w ev od
@@ -139,7 +138,7 @@ pub record Sorting (ns w w' ev od : List ℕ) (top ps t l n : ℕ) (last : Pick)
   pub ahead : Ahead ns (bound (list_qual ns w ps t) (env_of ns w ev od)) last (vars_of_word ns w' l)
 
 -- At first none was found.
-pub sorting : {ns w ev od : List ℕ} {top ps t : ℕ} → ReadyVars ns w ev od top ps t → Sorting ns w w ev od top ps t nil_word top Nothing
+pub sorting : {ns w ev od : List ℕ} {top ps t : ℕ} → ReadyVars ns w ev od top ps t → Sorting ns w w ev od top ps t nil_word top None
 unfolding count
 sorting {ns} {w} {ev} {od} {top} {ps} {t} R =
     let N : Node w top nil_word = low_node R.type.node.table (omega arith) in
@@ -158,15 +157,15 @@ sorting {ns} {w} {ev} {od} {top} {ps} {t} R =
       ahead = rw z (all_ahead ns _ (once_without (ftv_qual (list_qual ns w ps t)) (free_in ns w ev od) (once_ftv_qual (list_qual ns w ps t))));
     }
 
-module _ {ns w w' ev od : List ℕ} {top ps t l n : ℕ} {last r : Pick} (G : Sorting ns w w' ev od top ps t l n last)
-    (L : Last ns (free_in ns w' ev od) (λ v. occurs_qual v (list_qual ns w' ps t)) n last Nothing r) where
+module _ {ns w w' ev od : List ℕ} {top ps t l n : ℕ} {last r : Option ℕ} (G : Sorting ns w w' ev od top ps t l n last)
+    (L : Last ns (free_in ns w' ev od) (λ v. occurs_qual v (list_qual ns w' ps t)) n last None r) where
   -- The same said of the first words.
-  first_last : Last ns (free_in ns w ev od) (λ v. occurs_qual v (list_qual ns w ps t)) n last Nothing r
-  first_last = subst (λ (q : Qual). Last ns (free_in ns w ev od) (λ v. occurs_qual v q) n last Nothing r) G.same_qual
-      (subst (λ (env : Env). Last ns (env_ftv env) (λ v. occurs_qual v (list_qual ns w' ps t)) n last Nothing r) G.same_env L)
+  first_last : Last ns (free_in ns w ev od) (λ v. occurs_qual v (list_qual ns w ps t)) n last None r
+  first_last = subst (λ (q : Qual). Last ns (free_in ns w ev od) (λ v. occurs_qual v q) n last None r) G.same_qual
+      (subst (λ (env : Env). Last ns (env_ftv env) (λ v. occurs_qual v (list_qual ns w' ps t)) n last None r) G.same_env L)
 
   -- There is no more.
-  pub sorts_end : r ≡ Nothing → Sorted ns w w' (list_qual ns w ps t) (env_of ns w ev od) top l n
+  pub sorts_end : r ≡ None → Sorted ns w w' (list_qual ns w ps t) (env_of ns w ev od) top l n
   sorts_end k =
       let M = rw k at first_last in
       let e = none_ahead G.ahead (λ v i u. let p = bound_parts v (list_qual ns w ps t) (env_of ns w ev od) i in M.most v p.0 p.1 u) in
@@ -177,11 +176,11 @@ module _ {ns w w' ev od : List ℕ} {top ps t l n : ℕ} {last r : Pick} (G : So
         stands = G.stands;
       }
 
-  module _ {x : ℕ} (k : r ≡ Word x) where
+  module _ {x : ℕ} (k : r ≡ Some x) where
     -- What was found is the last one ahead.
-    next_ahead : (x < first_node + n) × Ahead ns (bound (list_qual ns w ps t) (env_of ns w ev od)) (Word x) (tyvar_of ns x ∷ vars_of_word ns w' l)
+    next_ahead : (x < first_node + n) × Ahead ns (bound (list_qual ns w ps t) (env_of ns w ev od)) (Some x) (tyvar_of ns x ∷ vars_of_word ns w' l)
     next_ahead =
-        let M : Last ns (free_in ns w ev od) (λ v. occurs_qual v (list_qual ns w ps t)) n last Nothing (Word x) = rw k at first_last in
+        let M : Last ns (free_in ns w ev od) (λ v. occurs_qual v (list_qual ns w ps t)) n last None (Some x) = rw k at first_last in
         ⊎_elim (λ e. absurd (let z : ◌≡◌ {A = ℕ} 0 1 = cc in omega arith)) (λ f. (
           f.0,
           ahead_on x G.ahead (bound_yes (tyvar_of ns x) (list_qual ns w ps t) (env_of ns w ev od) f.1.0 f.1.1.0) f.1.1.1
@@ -199,7 +198,7 @@ module _ {ns w w' ev od : List ℕ} {top ps t l n : ℕ} {last r : Pick} (G : So
         (omega arith, (omega arith, omega arith))
 
     -- The cell is written.
-    pub sorts_on : {w'' : List ℕ} → n < first_node → w'' ≡ pushed w' n 3 x l → Sorting ns w w'' ev od top ps t (first_node + n) (n + 1) (Word x)
+    pub sorts_on : {w'' : List ℕ} → n < first_node → w'' ≡ pushed w' n 3 x l → Sorting ns w w'' ev od top ps t (first_node + n) (n + 1) (Some x)
     unfolding count
     sorts_on {w''} small e =
         let m = sorts_room.0 in

@@ -15,8 +15,8 @@ use Rattle.ast.specs.Table.{nil_word, tree}
 use Rattle.ast.proofs.Laws.{low_node}
 use Rattle.errors.specs.declared.Refusal.{Refusal}
 use Rattle.pairs.proofs.Frames.{stands_refl}
-use Rattle.apply.specs.declared.Applied.{Applied}
-use Rattle.apply.specs.declared.Applied.TheVariants.{Done as Made, Refused as Not-made}
+use Rattle.apply.specs.Applied.{Applied}
+use Rattle.apply.specs.Applied.{Done as Made, Refused as Not-made}
 use Rattle.supers.specs.declared.rows.Row.{Row}
 use Rattle.supers.specs.declared.rows.Row.TheVariants.{Pending, Replaced}
 use Rattle.supers.specs.Rows.{row_at, TypeIn}
@@ -25,7 +25,7 @@ use Rattle.simplify.proofs.RowSets.{row_words, set_others}
 use Rattle.rename.specs.Renaming.{renamed_word}
 use Rattle.rename.specs.Renamed as R
 use Rattle.canonical.specs.Rows.{ReadyRename, Letters, RenamesRow}
-use Rattle.canonical.specs.declared.renamed.Rows.TheVariants.{Done, Refused}
+use Rattle.canonical.specs.Rows.{Done, Refused}
 use Rattle.canonical.proofs.Chosen.{no_place}
 
 -- ## rows of which one changes

@@ -1,5 +1,5 @@
 -- What renaming the types of pending rows asks and gives, and the list of their predicates.
-use Rattle.std.specs.Prelude.{◌≡◌, List, [], ℕ, ◌+◌, ◌*◌, ◌≤◌, length}
+use Rattle.std.specs.Prelude.{◌≡◌, List, [], ℕ, ◌+◌, ◌*◌, ◌≤◌, length, Result, Ok, Err}
 use Rattle.meaning.specs.Base.{count, total}
 use Rattle.meaning.specs.Ast.{Pred, Binder}
 use Rattle.meaning.specs.Budget.{done, after}
@@ -8,14 +8,22 @@ use Rattle.meaning.specs.Generalize.{preds_of}
 use Rattle.names.specs.Names.{Names}
 use Rattle.ast.specs.Table.{nil_word, Table, Node}
 use Rattle.errors.specs.Refusals.{Refuses}
+use Rattle.errors.specs.declared.Refusal.{Refusal}
 use Rattle.pairs.specs.Pairs.{Stands}
-use Rattle.apply.specs.declared.Applied.{Applied}
-use Rattle.apply.specs.declared.Applied.TheVariants.{Done as Made, Refused as Not-made}
+use Rattle.apply.specs.Applied.{Applied, Done as Made, Refused as Not-made}
 use Rattle.subst.specs.Preds.{preds_of_word}
 use Rattle.supers.specs.Rows.{row_at, with_row, binders_in, HasWord, TypeIn, Binders}
 use Rattle.rename.specs.Renaming.{Renames, leaves}
-use Rattle.canonical.specs.declared.renamed.Rows.{Rows}
-use Rattle.canonical.specs.declared.renamed.Rows.TheVariants.{Done, Refused}
+
+-- What the rows come to: they are renamed, or a refusal; with the first free node and the steps left.
+pub data Rows : Type 0 where
+  Done : ℕ → ℕ → Rows
+  Refused : Refusal → ℕ → ℕ → Rows
+
+-- What the code returned, with what it left.
+abbrev pub rows_of : Result (Unit {0}) Refusal → ℕ → ℕ → Rows
+rows_of (Ok x) top left = Done top left
+rows_of (Err e) top left = Refused e top left
 
 -- The variables of predicates, each as often as it stands there.
 abbrev pub leaves_preds : List Pred → ℕ

@@ -1,5 +1,5 @@
 // The variables that a scheme binds, as a list in byte order.
-ghost use Rattle.std.specs.Prelude.{◌++◌, ◌*◌, ◌≤◌, length};
+ghost use Rattle.std.specs.Prelude.{◌≡◌, ◌++◌, ◌*◌, ◌≤◌, length};
 ghost use Rattle.meaning.specs.Ast.{var};
 ghost use Rattle.meaning.specs.Subst.{occurs, occurs_in};
 ghost use Rattle.theorems.proofs.FreeVars.{occurs_qual};
@@ -9,58 +9,49 @@ ghost use Rattle.scope.specs.Scope.{env_of};
 ghost use Rattle.canonical.specs.Picks.{IsUnder, IsOver, Last};
 ghost use Rattle.canonical.specs.Named.{free_in, ReadyType, ReadyVars, list_qual, Sorted};
 
-use crate::Pick;
-use ast::{Cell, Shape};
-
-// A list of variables, and the first free node after it.
-#[derive(Clone, Copy)]
-pub struct Vars {
-    pub list: usize,
-    pub top: usize,
-}
+use ast::{Base, Cell, Room, Shape};
+use scope::Env;
 
 // Whether the variable of word x lies before the picked one, if one was picked.
-fn is_under(names: &[u64], p: Pick, x: usize) -> bool
+fn is_under(names: &[u64], p: Option<usize>, x: usize) -> bool
     ensures { IsUnder names.now p (tyvar_of names.now x) result }
 {
     match p {
-        Pick::Nothing => true,
-        Pick::Word(y) => names::before(names, x, y),
+        None => true,
+        Some(y) => names::before(names, x, y),
     }
 }
 
 // Whether it lies after the picked one, if one was picked.
-fn is_over(names: &[u64], p: Pick, x: usize) -> bool
+fn is_over(names: &[u64], p: Option<usize>, x: usize) -> bool
     ensures { IsOver names.now p (tyvar_of names.now x) result }
 {
     match p {
-        Pick::Nothing => true,
-        Pick::Word(y) => names::before(names, y, x),
+        None => true,
+        Some(y) => names::before(names, y, x),
     }
 }
 
 // The variable's word x where it lies before `last`, after `best`, and is not free in the environment; else `best`.
 fn last_var(
-    base: &[u64],
+    base: Base,
     work: &[u64],
-    names: &[u64],
-    env: &[u64],
-    order: &[u64],
+    env: Env,
     top: usize,
-    last: Pick,
-    best: Pick,
+    last: Option<usize>,
+    best: Option<usize>,
     x: usize,
-) -> Pick
-    requires { ReadyType names.now (base.now ++ work.now) env.now order.now top x }
-    ensures { Last names.now (free_in names.now (base.now ++ work.now) env.now order.now)
-        (λ v. occurs v (var (tyvar_of names.now x))) top last best result }
+) -> Option<usize>
+    requires { ReadyType base.names.now (base.words.now ++ work.now) env.rows.now env.order.now top x }
+    ensures { Last base.entry.names.now (free_in base.entry.names.now (base.entry.words.now ++ work.now) env.entry.rows.now env.entry.order.now)
+        (λ v. occurs v (var (tyvar_of base.entry.names.now x))) top last best result }
 {
-    if is_under(names, last, x) {
-        if is_over(names, best, x) {
-            if scope::is_free(base, work, names, env, order, top, x) {
+    if is_under(base.names, last, x) {
+        if is_over(base.names, best, x) {
+            if scope::is_free(base, work, env, top, x) {
                 return best;
             }
-            return Pick::Word(x);
+            return Some(x);
         }
         return best;
     }
@@ -70,27 +61,25 @@ fn last_var(
 // The last such variable of the type t. A shared node is walked once for each place where it stands.
 #[cycle(last_in_last_list)]
 fn last_in(
-    base: &[u64],
+    base: Base,
     work: &[u64],
-    names: &[u64],
-    env: &[u64],
-    order: &[u64],
+    env: Env,
     top: usize,
-    last: Pick,
-    best: Pick,
+    last: Option<usize>,
+    best: Option<usize>,
     t: usize,
-) -> Pick
-    requires { ReadyType names.now (base.now ++ work.now) env.now order.now top t }
-    ensures { Last names.now (free_in names.now (base.now ++ work.now) env.now order.now)
-        (λ v. occurs v (tree names.now (base.now ++ work.now) t)) top last best result }
+) -> Option<usize>
+    requires { ReadyType base.names.now (base.words.now ++ work.now) env.rows.now env.order.now top t }
+    ensures { Last base.entry.names.now (free_in base.entry.names.now (base.entry.words.now ++ work.now) env.entry.rows.now env.entry.order.now)
+        (λ v. occurs v (tree base.entry.names.now (base.entry.words.now ++ work.now) t)) top last best result }
 {
     let s = ast::shape_at(base, work, t);
     match s {
-        Shape::Var(x) => last_var(base, work, names, env, order, top, last, best, x),
-        Shape::Con(_, l) => last_list(base, work, names, env, order, top, last, best, l),
+        Shape::Var(x) => last_var(base, work, env, top, last, best, x),
+        Shape::Con(_, l) => last_list(base, work, env, top, last, best, l),
         Shape::Arrow(a, b) => {
-            let m = last_in(base, work, names, env, order, top, last, best, a);
-            last_in(base, work, names, env, order, top, last, m, b)
+            let m = last_in(base, work, env, top, last, best, a);
+            last_in(base, work, env, top, last, m, b)
         }
     }
 }
@@ -98,84 +87,69 @@ fn last_in(
 // The same of a list of types. The cells of a list of predicates are those of one of types.
 #[cycle(last_in_last_list)]
 fn last_list(
-    base: &[u64],
+    base: Base,
     work: &[u64],
-    names: &[u64],
-    env: &[u64],
-    order: &[u64],
+    env: Env,
     top: usize,
-    last: Pick,
-    best: Pick,
+    last: Option<usize>,
+    best: Option<usize>,
     l: usize,
-) -> Pick
-    requires { ReadyType names.now (base.now ++ work.now) env.now order.now top l }
-    ensures { Last names.now (free_in names.now (base.now ++ work.now) env.now order.now)
-        (λ v. occurs_in v (list names.now (base.now ++ work.now) l)) top last best result }
+) -> Option<usize>
+    requires { ReadyType base.names.now (base.words.now ++ work.now) env.rows.now env.order.now top l }
+    ensures { Last base.entry.names.now (free_in base.entry.names.now (base.entry.words.now ++ work.now) env.entry.rows.now env.entry.order.now)
+        (λ v. occurs_in v (list base.entry.names.now (base.entry.words.now ++ work.now) l)) top last best result }
 {
     let c = ast::cell_at(base, work, l);
     match c {
         Cell::Nil => best,
         Cell::Cons(a, b) => {
-            let m = last_in(base, work, names, env, order, top, last, best, a);
-            last_list(base, work, names, env, order, top, last, m, b)
+            let m = last_in(base, work, env, top, last, best, a);
+            last_list(base, work, env, top, last, m, b)
         }
     }
 }
 
 // The last variable before `last` of the type t and of the predicates ps that is not free in the environment.
 fn last_before(
-    base: &[u64],
+    base: Base,
     work: &[u64],
-    names: &[u64],
-    env: &[u64],
-    order: &[u64],
+    env: Env,
     top: usize,
-    last: Pick,
+    last: Option<usize>,
     ps: usize,
     t: usize,
-) -> Pick
-    requires ready_type { ReadyType names.now (base.now ++ work.now) env.now order.now top t }
-    requires node { Node (base.now ++ work.now) top ps }
-    ensures { Last names.now (free_in names.now (base.now ++ work.now) env.now order.now)
-        (λ v. occurs_qual v (list_qual names.now (base.now ++ work.now) ps t)) top last Pick.Nothing result }
+) -> Option<usize>
+    requires ready_type { ReadyType base.names.now (base.words.now ++ work.now) env.rows.now env.order.now top t }
+    requires node { Node (base.words.now ++ work.now) top ps }
+    ensures { Last base.entry.names.now (free_in base.entry.names.now (base.entry.words.now ++ work.now) env.entry.rows.now env.entry.order.now)
+        (λ v. occurs_qual v (list_qual base.entry.names.now (base.entry.words.now ++ work.now) ps t)) top last None result }
 {
-    let m = last_list(base, work, names, env, order, top, last, Pick::Nothing, ps);
-    last_in(base, work, names, env, order, top, last, m, t)
+    let m = last_list(base, work, env, top, last, None, ps);
+    last_in(base, work, env, top, last, m, t)
 }
 
 // The variables of the type t and of the predicates ps that are not free in the environment, in byte order: from the last one
 // on, each is put before those that follow it.
 pub fn sorted_vars(
-    base: &[u64],
+    base: Base,
     work: &mut [u64],
-    names: &[u64],
-    env: &[u64],
-    order: &[u64],
-    top: usize,
+    room: &mut Room,
+    env: Env,
     ps: usize,
     t: usize,
-) -> Vars
-    requires base_len_bound { length base.now ≤ 4 * top }
-    requires ready_vars { ReadyVars names.now (base.now ++ work.old) env.now order.now top ps t }
-    ensures { Sorted names.now (base.now ++ work.old) (base.now ++ work.new)
-        (list_qual names.now (base.now ++ work.old) ps t) (env_of names.now (base.now ++ work.old) env.now order.now)
-        top result.list result.top }
+) -> usize
+    requires base_len_bound { length base.words.now ≤ 4 * room.old.top }
+    requires ready_vars { ReadyVars base.names.now (base.words.now ++ work.old) env.rows.now env.order.now room.old.top ps t }
+    ensures sorted { Sorted base.entry.names.now (base.entry.words.now ++ work.old) (base.entry.words.now ++ work.new)
+        (list_qual base.entry.names.now (base.entry.words.now ++ work.old) ps t) (env_of base.entry.names.now (base.entry.words.now ++ work.old) env.entry.rows.now env.entry.order.now)
+        room.old.top result room.new.top }
+    ensures left { room.new.left ≡ room.old.left }
 {
     let mut l = ast::NIL;
-    let mut n = top;
-    let mut last = Pick::Nothing;
-    loop {
-        let p = last_before(base, work, names, env, order, n, last, ps, t);
-        match p {
-            Pick::Nothing => {
-                return Vars { list: l, top: n };
-            }
-            Pick::Word(x) => {
-                ast::push(base, work, n, 3, x, l);
-                l = names::NODE + n;
-                n = n + 1;
-                last = Pick::Word(x);
-            }
-        }
+    let mut last = None;
+    while let Some(x) = last_before(base, work, env, room.top, last, ps, t) {
+        l = ast::add(base, work, room, ast::CONS, x, l);
+        last = Some(x);
     }
+    l
 }

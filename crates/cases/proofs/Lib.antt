@@ -1,5 +1,4 @@
 -- Laws that the proofs of several functions use.
-pub mod Never
 pub mod Apart
 pub mod Falling
 pub mod Tested

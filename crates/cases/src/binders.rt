@@ -3,7 +3,8 @@ ghost use Rattle.std.specs.Prelude.{◌≡◌, true, ◌+◌, ◌*◌, ◌<◌, 
 ghost use Rattle.names.specs.Names.{first_node};
 ghost use Rattle.cases.specs.Typed.{TypedRows};
 
-use crate::{dicts, say};
+use crate::dicts;
+use ast::Base;
 use std::io;
 use std::io::Write;
 use supers::rows::Row;
@@ -15,8 +16,7 @@ pub fn are_typed(binders: &[u64], top: usize, n: usize) -> bool
     ensures { result ≡ true → TypedRows top binders.now n }
 {
     let end = names::NODE + top;
-    let mut j: usize = 0;
-    while j < n {
+    for j in 0..n {
         let r = supers::rows::row_at(binders, j);
         match r {
             Row::Pending(d, _, t) => {
@@ -31,33 +31,27 @@ pub fn are_typed(binders: &[u64], top: usize, n: usize) -> bool
                 return false;
             }
         }
-        j += 1;
     }
     true
 }
 
+// Writes what became of each row.
+pub fn all<W: Write>(out: &mut W, base: Base, work: &[u64], binders: &[u64]) -> io::Result<()> {
+    for j in 0..binders.len() / 3 {
+        row(out, base, work, binders, j)?;
+    }
+    Ok(())
+}
+
 // Writes what became of a row.
-pub fn row<W: Write>(
-    out: &mut W,
-    base: &[u64],
-    work: &[u64],
-    names: &[u64],
-    binders: &[u64],
-    j: usize,
-) -> io::Result<()>
+fn row<W: Write>(out: &mut W, base: Base, work: &[u64], binders: &[u64], j: usize) -> io::Result<()>
     requires { 3 * j + 3 ≤ length binders.now }
 {
-    say::text(out, b" d")?;
-    let r = supers::rows::row_at(binders, j);
-    match r {
-        Row::Pending(d, _, _) => {
-            say::decimal(out, d)?;
-            say::text(out, b" stays")
-        }
+    match supers::rows::row_at(binders, j) {
+        Row::Pending(d, _, _) => write!(out, " d{d} stays"),
         Row::Replaced(d, e) => {
-            say::decimal(out, d)?;
-            say::text(out, b" is ")?;
-            dicts::whole(out, base, work, names, e)
+            write!(out, " d{d} is ")?;
+            dicts::whole(out, base, work, e)
         }
     }
 }

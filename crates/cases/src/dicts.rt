@@ -1,85 +1,75 @@
 // Writing dictionaries. What lies out of the words or the names is written as nothing.
 use crate::say;
-use ast::Cell;
+use ast::{Base, Cell};
 use cores::Part;
 use std::io;
 use std::io::Write;
 
 // What a dictionary is; `self`, if it does not lie in the words.
-fn part(base: &[u64], work: &[u64], t: usize) -> Part {
+fn part(base: Base, work: &[u64], t: usize) -> Part {
     if say::is_there(base, work, t) {
         return cores::part_at(base, work, t);
     }
     Part::Own
 }
 
-// Writes the name of a binder's dictionary.
-fn binder<W: Write>(out: &mut W, d: usize) -> io::Result<()> {
-    say::text(out, b"d")?;
-    say::decimal(out, d)
-}
-
 // Writes the name of the i-th dictionary of a context.
 fn context<W: Write>(out: &mut W, names: &[u64], c: usize, i: usize) -> io::Result<()> {
-    say::text(out, b"d_ctx_")?;
+    write!(out, "d_ctx_")?;
     say::name(out, names, c)?;
-    say::text(out, b"_")?;
-    say::decimal(out, i)
+    write!(out, "_{i}")
 }
 
 // Writes an instance's record.
 fn record_of<W: Write>(
     out: &mut W,
-    base: &[u64],
+    base: Base,
     work: &[u64],
-    names: &[u64],
     c: usize,
     t: usize,
 ) -> io::Result<()> {
-    say::text(out, b"(rec ")?;
-    say::name(out, names, c)?;
-    say::text(out, b" ")?;
-    say::whole(out, base, work, names, t)?;
-    say::text(out, b")")
+    write!(out, "(rec ")?;
+    say::name(out, base.names, c)?;
+    write!(out, " ")?;
+    say::whole(out, base, work, t)?;
+    write!(out, ")")
 }
 
 // Writes the name of a superclass's field.
 fn field<W: Write>(out: &mut W, names: &[u64], c: usize, s: usize) -> io::Result<()> {
-    say::text(out, b" __super_")?;
+    write!(out, " __super_")?;
     say::name(out, names, c)?;
-    say::text(out, b"__")?;
+    write!(out, "__")?;
     say::name(out, names, s)?;
-    say::text(out, b")")
+    write!(out, ")")
 }
 
 // Writes a dictionary, so many levels of it. Resolution, reduction and simplification make only these.
 #[cycle(dictionaries_dictionary)]
 fn dictionary<W: Write>(
     out: &mut W,
-    base: &[u64],
+    base: Base,
     work: &[u64],
-    names: &[u64],
     depth: usize,
     t: usize,
 ) -> io::Result<()> {
     if depth == 0 {
         return Ok(());
     }
-    let p = part(base, work, t);
-    match p {
-        Part::Dict(d) => binder(out, d),
-        Part::Context(c, i) => context(out, names, c, i),
-        Part::Rec(c, u, _) => record_of(out, base, work, names, c, u),
+    match part(base, work, t) {
+        Part::Dict(d) => write!(out, "d{d}"),
+        Part::Context(c, i) => context(out, base.names, c, i),
+        Part::Rec(c, u, _) => record_of(out, base, work, c, u),
         Part::Super(e, c, s) => {
-            say::text(out, b"(proj ")?;
-            dictionary(out, base, work, names, depth - 1, e)?;
-            field(out, names, c, s)
+            write!(out, "(proj ")?;
+            dictionary(out, base, work, depth - 1, e)?;
+            field(out, base.names, c, s)
         }
         Part::DictApp(f, l) => {
-            say::text(out, b"(dapp ")?;
-            dictionary(out, base, work, names, depth - 1, f)?;
-            dictionaries(out, base, work, names, depth - 1, l)?;
-            say::text(out, b")")
+            write!(out, "(dapp ")?;
+            dictionary(out, base, work, depth - 1, f)?;
+            dictionaries(out, base, work, depth - 1, l)?;
+            write!(out, ")")
         }
         _ => Ok(()),
     }
@@ -89,33 +79,25 @@ fn dictionary<W: Write>(
 #[cycle(dictionaries_dictionary)]
 fn dictionaries<W: Write>(
     out: &mut W,
-    base: &[u64],
+    base: Base,
     work: &[u64],
-    names: &[u64],
     depth: usize,
     l: usize,
 ) -> io::Result<()> {
     if depth == 0 {
         return Ok(());
     }
-    let c = say::cell(base, work, l);
-    match c {
+    match say::cell(base, work, l) {
         Cell::Nil => Ok(()),
         Cell::Cons(a, b) => {
-            say::text(out, b" ")?;
-            dictionary(out, base, work, names, depth - 1, a)?;
-            dictionaries(out, base, work, names, depth - 1, b)
+            write!(out, " ")?;
+            dictionary(out, base, work, depth - 1, a)?;
+            dictionaries(out, base, work, depth - 1, b)
         }
     }
 }
 
 // Writes a dictionary: none that is written has as many levels.
-pub fn whole<W: Write>(
-    out: &mut W,
-    base: &[u64],
-    work: &[u64],
-    names: &[u64],
-    e: usize,
-) -> io::Result<()> {
-    dictionary(out, base, work, names, 1000000, e)
+pub fn whole<W: Write>(out: &mut W, base: Base, work: &[u64], e: usize) -> io::Result<()> {
+    dictionary(out, base, work, 1000000, e)
 }

@@ -5,12 +5,12 @@ ghost use Rattle.instances.specs.Accepted.{Heads};
 ghost use Rattle.cases.specs.Posed.{Short, Headed, Posed};
 
 use crate::ready;
-use ast::Cell;
+use ast::{Base, Cell, Room};
 
 // Whether a list has at most so many predicates.
-fn is_short(base: &[u64], work: &[u64], top: usize, l: usize, most: usize) -> bool
-    requires { Node (base.now ++ work.now) top l }
-    ensures { result ≡ true → Short (base.now ++ work.now) l most }
+fn is_short(base: Base, work: &[u64], top: usize, l: usize, most: usize) -> bool
+    requires { Node (base.words.now ++ work.now) top l }
+    ensures { result ≡ true → Short (base.entry.words.now ++ work.now) l most }
 {
     let c = ast::cell_at(base, work, l);
     match c {
@@ -25,10 +25,10 @@ fn is_short(base: &[u64], work: &[u64], top: usize, l: usize, most: usize) -> bo
 }
 
 // Whether the word of instance i is a list of the table with a first predicate.
-fn has_head(base: &[u64], work: &[u64], insts: &[u64], top: usize, i: usize) -> bool
+fn has_head(base: Base, work: &[u64], insts: &[u64], top: usize, i: usize) -> bool
     requires top_in_bounds { 4 * top ≤ length work.now }
     requires i_in_bounds { i < length insts.now }
-    ensures { result ≡ true → Headed (base.now ++ work.now) top (get_or insts.now i 0) }
+    ensures { result ≡ true → Headed (base.entry.words.now ++ work.now) top (get_or insts.now i 0) }
 {
     let l = insts[i] as usize;
     if l >= names::NODE + top {
@@ -42,17 +42,13 @@ fn has_head(base: &[u64], work: &[u64], insts: &[u64], top: usize, i: usize) -> 
 }
 
 // Whether all instances are such lists.
-fn have_heads(base: &[u64], work: &[u64], insts: &[u64], top: usize) -> bool
+fn have_heads(base: Base, work: &[u64], insts: &[u64], top: usize) -> bool
     requires top_in_bounds { 4 * top ≤ length work.now }
-    requires table { Table (base.now ++ work.now) top }
-    ensures { result ≡ true → Heads (base.now ++ work.now) top insts.now }
+    requires table { Table (base.words.now ++ work.now) top }
+    ensures { result ≡ true → Heads (base.entry.words.now ++ work.now) top insts.now }
 {
-    let n = insts.len();
-    let mut i: usize = 0;
-    while i < n {
-        if has_head(base, work, insts, top, i) {
-            i += 1;
-        } else {
+    for i in 0..insts.len() {
+        if !has_head(base, work, insts, top, i) {
             return false;
         }
     }
@@ -61,23 +57,22 @@ fn have_heads(base: &[u64], work: &[u64], insts: &[u64], top: usize) -> bool
 
 // Whether the words are a case: instances, the context l of a head of class h, and a type t.
 pub fn is_posed(
-    base: &[u64],
+    base: Base,
     work: &[u64],
     insts: &[u64],
-    top: usize,
-    left: usize,
+    room: Room,
     h: usize,
     l: usize,
     t: usize,
 ) -> bool
-    ensures { result ≡ true → Posed (base.now ++ work.now) (length work.now) insts.now top left h l t }
+    ensures { result ≡ true → Posed (base.entry.words.now ++ work.now) (length work.now) insts.now room.top room.left h l t }
 {
     if h >= 65536 {
         return false;
     }
-    if ready::is_ready(base, work, top, left, l, t) {
-        if is_short(base, work, top, l, 64) {
-            return have_heads(base, work, insts, top);
+    if ready::is_ready(base, work, room, l, t) {
+        if is_short(base, work, room.top, l, 64) {
+            return have_heads(base, work, insts, room.top);
         }
     }
     false

@@ -1,10 +1,11 @@
-// Reading the file. Each function answers for every place; past the end stand zeros.
-ghost use Rattle.std.specs.Prelude.{◌<◌, ◌≤◌, length, IfOk};
+// Reading the file.
+ghost use Rattle.std.specs.Prelude.{◌≡◌, ◌+◌, ◌*◌, ◌<◌, ◌≤◌, ◌↔◌, length, take, drop, slice_index, IfOk, IsTrue};
 
 use std::io;
 use std::io::Read;
 
 // Reads until the buffer is full or the input ends; how many bytes it put at the buffer's start.
+// No heap: the library's method that counts what it reads up to the end grows a `Vec`.
 pub fn fill<R: Read>(from: &mut R, buf: &mut [u8]) -> io::Result<usize>
     ensures { IfOk result (λ n. n ≤ length buf.new) }
 {
@@ -19,82 +20,65 @@ pub fn fill<R: Read>(from: &mut R, buf: &mut [u8]) -> io::Result<usize>
     Ok(done)
 }
 
-// A byte as a number.
-fn wide(x: u8) -> usize
-    ensures { result < 256 }
-{
-    x as usize
+// What is left of a file. Past its end stand zeros.
+#[derive(Clone, Copy)]
+pub struct Reader<'a> {
+    pub rest: &'a [u8],
 }
 
-// The byte at a place.
-pub fn byte(file: &[u8], at: usize) -> usize
-    ensures { result < 256 }
-{
-    if at < file.len() {
-        return wide(file[at]);
+impl<'a> Reader<'a> {
+    // A file, from its beginning on.
+    pub fn new(file: &'a [u8]) -> Reader<'a>
+        ensures { result.rest.now ≡ file.now }
+    {
+        Reader { rest: file }
     }
-    0
-}
 
-// The place k bytes further on, or the end.
-pub fn skip(file: &[u8], at: usize, k: usize) -> usize
-    ensures { result ≤ length file.now }
-{
-    let n = file.len();
-    if at > n {
-        return n;
+    // Whether nothing is left.
+    pub fn is_empty(self) -> bool
+        ensures { IsTrue result ↔ (length self.entry.rest.now ≡ 0) }
+    {
+        self.rest.is_empty()
     }
-    if n - at < k {
-        return n;
+
+    // The next k bytes, or those that are left.
+    pub fn bytes(&mut self, k: usize) -> &'a [u8]
+        ensures value { result.now ≡ take k self.old.rest.now }
+        ensures rest { self.new.rest.now ≡ drop k self.old.rest.now }
+    {
+        let (bytes, rest) = self.rest.split_at(k.min(self.rest.len()));
+        self.rest = rest;
+        bytes
     }
-    at + k
-}
 
-// Two bytes as a number, the lowest first.
-pub fn two(file: &[u8], at: usize) -> usize
-    ensures { result < 65536 }
-{
-    let a = byte(file, at);
-    let next = skip(file, at, 1);
-    a + 256 * byte(file, next)
-}
-
-// Four bytes as a number, the lowest first.
-pub fn four(file: &[u8], at: usize) -> usize
-    ensures { result < 4294967296 }
-{
-    let a = two(file, at);
-    let next = skip(file, at, 2);
-    a + 65536 * two(file, next)
-}
-
-// The byte k places behind at of a name that ends at a place: zero from there on.
-fn name_byte(file: &[u8], at: usize, k: usize, end: usize) -> u64
-    ensures { result < 256 }
-{
-    let i = skip(file, at, k);
-    if i < end {
-        return byte(file, i) as u64;
+    // The next byte.
+    pub fn byte(&mut self) -> u8
+        ensures value { result ≡ slice_index self.old.rest.now 0 }
+        ensures rest { self.new.rest.now ≡ drop 1 self.old.rest.now }
+    {
+        let Some((byte, rest)) = self.rest.split_first() else {
+            return 0;
+        };
+        self.rest = rest;
+        *byte
     }
-    0
-}
 
-// Four bytes of a name as a number, the first highest.
-fn half(file: &[u8], at: usize, k: usize, end: usize) -> u64
-    requires { k < 32 }
-    ensures { result < 4294967296 }
-{
-    let a = name_byte(file, at, k, end);
-    let b = name_byte(file, at, k + 1, end);
-    let c = name_byte(file, at, k + 2, end);
-    let d = name_byte(file, at, k + 3, end);
-    16777216 * a + 65536 * b + 256 * c + d
-}
+    // Two bytes as a number, the lowest first.
+    pub fn two(&mut self) -> usize
+        ensures value { result ≡ slice_index self.old.rest.now 0 + 256 * slice_index self.old.rest.now 1 }
+        ensures bound { result < 65536 }
+        ensures rest { self.new.rest.now ≡ drop 2 self.old.rest.now }
+    {
+        usize::from(u16::from_le_bytes([self.byte(), self.byte()]))
+    }
 
-// Eight bytes of a name as a word, from its byte k on.
-pub fn word(file: &[u8], at: usize, k: usize, end: usize) -> u64
-    requires { k < 28 }
-{
-    let a = half(file, at, k, end);
-    4294967296 * a + half(file, at, k + 4, end)
+    // Four bytes as a number, the lowest first.
+    pub fn four(&mut self) -> usize
+        ensures value { result ≡ slice_index self.old.rest.now 0 + 256 * slice_index self.old.rest.now 1
+            + 65536 * slice_index self.old.rest.now 2 + 16777216 * slice_index self.old.rest.now 3 }
+        ensures bound { result < 4294967296 }
+        ensures rest { self.new.rest.now ≡ drop 4 self.old.rest.now }
+    {
+        u32::from_le_bytes([self.byte(), self.byte(), self.byte(), self.byte()]) as usize
+    }
 }

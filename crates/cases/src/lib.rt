@@ -8,5 +8,6 @@ pub mod goals;
 pub mod input;
 pub mod nodes;
 pub mod ready;
+pub mod replay;
 pub mod rows;
 pub mod say;

@@ -1,224 +1,101 @@
 // The nodes of a case, read into the words as a table of types. Nothing is asked of the file: `ready` tests what came of it.
-ghost use Rattle.std.specs.Prelude.{◌≡◌, ◌<◌, ◌≤◌, length};
+ghost use Rattle.std.specs.Prelude.{◌≡◌, ◌+◌, ◌*◌, ◌≤◌, ◌↔◌, length, drop, IsTrue};
 
-use crate::input;
+use crate::input::Reader;
+use ast::{Base, Room};
 
-// The first free node, and a type's word.
-#[derive(Clone, Copy)]
-pub struct Made {
-    pub top: usize,
-    pub word: usize,
+// The word of the node whose number stands next, if it is one of those that were read; otherwise a variable's.
+pub fn id(reader: &mut Reader, ids: &[u64]) -> usize {
+    match ids.get(reader.two()) {
+        Some(word) => *word as usize,
+        None => 0,
+    }
 }
 
-// A place in the file, the first free node, and a type's word.
-#[derive(Clone, Copy)]
-pub struct Built {
-    pub at: usize,
-    pub top: usize,
-    pub word: usize,
+// Whether there is room for one more node.
+pub fn has_room(work: &[u64], room: Room) -> bool
+    ensures { IsTrue result ↔ (4 * room.top + 4 ≤ length work.now) }
+{
+    room.top < work.len() / 4
 }
 
-// A word as a number.
-fn wide(x: u64) -> usize {
-    x as usize
-}
-
-// The type's word of the node whose number stands at a place, if that is one of the first k; otherwise a variable.
-pub fn id(file: &[u8], at: usize, ids: &[u64], k: usize) -> usize {
-    let j = input::two(file, at);
-    if j >= k {
+// Pushes a node, if there is room for one; its word, or a variable's. No type of a case lies in a closed table.
+fn push(work: &mut [u64], room: &mut Room, tag: u64, a: usize, b: usize) -> usize {
+    if !has_room(work, *room) {
         return 0;
     }
-    if j >= ids.len() {
-        return 0;
-    }
-    wide(ids[j])
+    let none = Base {
+        words: &[],
+        names: &[],
+    };
+    ast::add(none, work, room, tag, a, b)
 }
 
-// Pushes a node, if there is room for one.
-fn push(base: &[u64], work: &mut [u64], top: usize, tag: u64, a: usize, b: usize) -> Made
-    requires { length base.now ≡ 0 }
+// Makes the list of the n items that stand next, of so many bytes each, from the last one on: `cons` reads an item and puts
+// it before a list.
+pub fn list<F: FnMut(&mut Reader, usize) -> usize>(
+    reader: &mut Reader,
+    n: u8,
+    size: usize,
+    mut cons: F,
+) -> usize
+    requires size_bound { size ≤ 4 }
+    requires callable { (state : F) (item : _) (l : _) → F.pre state item l }
+    ensures { reader.new.rest.now ≡ drop (size * n) reader.old.rest.now }
 {
-    if top >= work.len() / 4 {
-        return Made { top: top, word: 0 };
-    }
-    ast::push(base, work, top, tag, a, b);
-    Made {
-        top: top + 1,
-        word: names::NODE + top,
-    }
-}
-
-// Pushes the list of n arguments whose numbers stand from a place on.
-fn list(
-    file: &[u8],
-    at: usize,
-    base: &[u64],
-    work: &mut [u64],
-    ids: &[u64],
-    k: usize,
-    top: usize,
-    n: usize,
-) -> Made
-    requires base_len { length base.now ≡ 0 }
-    requires n_bound { n < 256 }
-{
-    let mut t = top;
+    let n = usize::from(n);
     let mut l = ast::NIL;
-    let mut j = n;
-    while j > 0 {
-        j -= 1;
-        let i = input::skip(file, at, 2 * j);
-        let a = id(file, i, ids, k);
-        let m = push(base, work, t, 3, a, l);
-        t = m.top;
-        l = m.word;
+    for j in (0..n).rev() {
+        let mut item = *reader;
+        item.bytes(size * j);
+        l = cons(&mut item, l);
     }
-    Made { top: t, word: l }
-}
-
-// Pushes a constructor with n arguments, whose numbers stand from a place on.
-fn applied(
-    file: &[u8],
-    at: usize,
-    base: &[u64],
-    work: &mut [u64],
-    ids: &[u64],
-    k: usize,
-    top: usize,
-    c: usize,
-    n: usize,
-) -> Built
-    requires base_len { length base.now ≡ 0 }
-    requires n_bound { n < 256 }
-{
-    let l = list(file, at, base, work, ids, k, top, n);
-    let m = push(base, work, l.top, 1, c, l.word);
-    Built {
-        at: input::skip(file, at, 2 * n),
-        top: m.top,
-        word: m.word,
-    }
+    reader.bytes(size * n);
+    l
 }
 
 // A constructor: its name, how many arguments, their numbers.
-fn con(
-    file: &[u8],
-    at: usize,
-    base: &[u64],
-    work: &mut [u64],
-    ids: &[u64],
-    k: usize,
-    top: usize,
-) -> Built
-    requires { length base.now ≡ 0 }
-{
-    let c = input::two(file, at);
-    let i = input::skip(file, at, 2);
-    let n = input::byte(file, i);
-    let next = input::skip(file, i, 1);
+fn con(reader: &mut Reader, work: &mut [u64], room: &mut Room, ids: &[u64]) -> usize {
+    let c = reader.two();
+    let n = reader.byte();
     if n == 0 {
-        return Built {
-            at: next,
-            top: top,
-            word: names::NULLARY + c,
-        };
+        return names::NULLARY + c;
     }
-    applied(file, next, base, work, ids, k, top, c, n)
+    let l = list(reader, n, 2, |item, l| {
+        let a = id(item, ids);
+        push(work, room, ast::CONS, a, l)
+    });
+    push(work, room, ast::CON, c, l)
 }
 
 // An arrow: two numbers.
-fn arrow(
-    file: &[u8],
-    at: usize,
-    base: &[u64],
-    work: &mut [u64],
-    ids: &[u64],
-    k: usize,
-    top: usize,
-) -> Built
-    requires { length base.now ≡ 0 }
-{
-    let i = input::skip(file, at, 2);
-    let a = id(file, at, ids, k);
-    let b = id(file, i, ids, k);
-    let m = push(base, work, top, 2, a, b);
-    Built {
-        at: input::skip(file, i, 2),
-        top: m.top,
-        word: m.word,
+fn arrow(reader: &mut Reader, work: &mut [u64], room: &mut Room, ids: &[u64]) -> usize {
+    let a = id(reader, ids);
+    let b = id(reader, ids);
+    push(work, room, ast::ARROW, a, b)
+}
+
+// A node of a case: a named variable, a made one, a constructor or an arrow.
+fn node(reader: &mut Reader, work: &mut [u64], room: &mut Room, ids: &[u64]) -> usize {
+    match reader.byte() {
+        0 => reader.two(),
+        1 => names::FRESH + reader.four(),
+        2 => con(reader, work, room, ids),
+        _ => arrow(reader, work, room, ids),
     }
 }
 
-// Node k of a case: a named variable, a made one, a constructor or an arrow.
-fn node(
-    file: &[u8],
-    at: usize,
-    base: &[u64],
+// Reads how many nodes a case has, and the nodes; their words, by their numbers.
+pub fn read<'a>(
+    reader: &mut Reader,
     work: &mut [u64],
-    ids: &[u64],
-    k: usize,
-    top: usize,
-) -> Built
-    requires { length base.now ≡ 0 }
-{
-    let tag = input::byte(file, at);
-    let i = input::skip(file, at, 1);
-    if tag == 0 {
-        return Built {
-            at: input::skip(file, i, 2),
-            top: top,
-            word: input::two(file, i),
-        };
+    room: &mut Room,
+    ids: &'a mut [u64],
+) -> &'a [u64] {
+    let n = reader.two().min(ids.len());
+    for k in 0..n {
+        let word = node(reader, work, room, &ids[..k]);
+        ids[k] = word as u64;
     }
-    if tag == 1 {
-        return Built {
-            at: input::skip(file, i, 4),
-            top: top,
-            word: names::FRESH + input::four(file, i),
-        };
-    }
-    if tag == 2 {
-        return con(file, i, base, work, ids, k, top);
-    }
-    arrow(file, i, base, work, ids, k, top)
-}
-
-// The smaller number.
-pub fn least(a: usize, b: usize) -> usize
-    ensures { result ≤ b }
-{
-    if a < b {
-        return a;
-    }
-    b
-}
-
-// Reads the nodes of a case, and puts down their words by their numbers.
-pub fn read(
-    file: &[u8],
-    at: usize,
-    base: &[u64],
-    work: &mut [u64],
-    ids: &mut [u64],
-    count: usize,
-) -> Built
-    requires { length base.now ≡ 0 }
-{
-    let n = least(count, ids.len());
-    let mut i = at;
-    let mut t: usize = 0;
-    let mut k: usize = 0;
-    while k < n {
-        let b = node(file, i, base, work, ids, k, t);
-        i = b.at;
-        t = b.top;
-        ids[k] = b.word as u64;
-        k += 1;
-    }
-    Built {
-        at: i,
-        top: t,
-        word: 0,
-    }
+    &ids[..n]
 }

@@ -3,7 +3,7 @@ ghost use Rattle.std.specs.Prelude.{◌≡◌, true, false, ◌++◌, ◌+◌, �
 ghost use Rattle.ast.specs.Table.{ShapeBelow, CellBelow, Table};
 ghost use Rattle.cases.specs.Tested.{Falls, Fits};
 
-use ast::{Cell, Shape};
+use ast::{Base, Cell, Room, Shape};
 
 // Whether a type refers to a word that is not below t.
 fn shape_rises(s: Shape, t: usize) -> bool
@@ -37,9 +37,9 @@ fn cell_rises(l: Cell, t: usize) -> bool
 }
 
 // Whether node n refers to a word that is not below its own.
-fn rises(base: &[u64], work: &[u64], n: usize) -> bool
+fn rises(base: Base, work: &[u64], n: usize) -> bool
     requires { 4 * n + 4 ≤ length work.now }
-    ensures { result ≡ false → Falls (base.now ++ work.now) n }
+    ensures { result ≡ false → Falls (base.entry.words.now ++ work.now) n }
 {
     let t = names::NODE + n;
     let s = ast::shape_at(base, work, t);
@@ -51,37 +51,35 @@ fn rises(base: &[u64], work: &[u64], n: usize) -> bool
 }
 
 // Whether the first top nodes are a table.
-fn is_table(base: &[u64], work: &[u64], top: usize) -> bool
+fn is_table(base: Base, work: &[u64], top: usize) -> bool
     requires { 4 * top ≤ length work.now }
-    ensures { result ≡ true → Table (base.now ++ work.now) top }
+    ensures { result ≡ true → Table (base.entry.words.now ++ work.now) top }
 {
-    let mut n: usize = 0;
-    while n < top {
+    for n in 0..top {
         if rises(base, work, n) {
             return false;
         }
-        n += 1;
     }
     true
 }
 
 // Whether s and t are types of a table, and there is room for the steps.
-pub fn is_ready(base: &[u64], work: &[u64], top: usize, left: usize, s: usize, t: usize) -> bool
-    ensures { result ≡ true → Fits (base.now ++ work.now) (length work.now) top left s t }
+pub fn is_ready(base: Base, work: &[u64], room: Room, s: usize, t: usize) -> bool
+    ensures { result ≡ true → Fits (base.entry.words.now ++ work.now) (length work.now) room.top room.left s t }
 {
     let n = work.len();
-    if top > n / 4 {
+    if room.top > n / 4 {
         return false;
     }
-    if left > (n - 4 * top) / 8 {
+    if room.left > (n - 4 * room.top) / 8 {
         return false;
     }
-    let end = names::NODE + top;
+    let end = names::NODE + room.top;
     if s >= end {
         return false;
     }
     if t >= end {
         return false;
     }
-    is_table(base, work, top)
+    is_table(base, work, room.top)
 }

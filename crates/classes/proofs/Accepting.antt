@@ -2,7 +2,7 @@
 use mathlib.Core.Path.{◌≡◌, refl, ◌∙◌}
 use mathlib.Core.Bool.{Bool, true, false, not, true≢false, false≢true}
 use mathlib.Core.List.{List}
-use mathlib.Core.Option.{Option, none, some}
+use mathlib.Core.Option.{Option as Maybe, none, some}
 use Prim.Native.Nat.{ℕ}
 use native.Mathlib.Omega.{arith}
 use Rattle.meaning.specs.Ast.{Name, Pred}
@@ -13,15 +13,15 @@ use Rattle.names.specs.Names.{name_of}
 use Rattle.errors.specs.declared.Refusal.TheVariants.{UnknownClass}
 use Rattle.pairs.proofs.Frames.{stands_refl}
 use Rattle.instances.specs.Picks.{ApartAs, GivesApart}
-use Rattle.instances.specs.declared.Apart.{Apart}
-use Rattle.instances.specs.declared.Apart.TheVariants.{All, Refused}
+use Rattle.instances.specs.Apart.{Apart}
+use Rattle.instances.specs.Apart.{All, Refused}
 use Rattle.supers.specs.ClassTable.{declared_at, Supers}
 use Rattle.supers.proofs.ClassLaws.{turned_true, turned_false}
 use Rattle.classes.specs.Growing.{is_some, Declared}
 use Rattle.classes.specs.Adding.{AcceptedAs, GivesInstance}
 use Rattle.classes.specs.Method.{method_at, MethodAs, Methods}
+use Rattle.std.specs.Prelude.{Option, Some, None}
 use Rattle.classes.specs.declared.Method.{Method}
-use Rattle.classes.specs.declared.Method.TheVariants.{Of, Nothing}
 
 module _ {ns cl : List ℕ} {ce : ClassEnv} (D : Declared ns cl ce) (i : InstanceInfo) (c left : ℕ) (h : i.head.class ≡ name_of ns c) where
   -- The class is not declared: 19.
@@ -29,7 +29,7 @@ module _ {ns cl : List ℕ} {ce : ClassEnv} (D : Declared ns cl ce) (i : Instanc
   unfolding add_instance or_refuse after
   class_unknown k = go (class_of ce (name_of ns c)) refl (D.is c ∙ k)
     where
-      go : (o : Option ClassInfo) → class_of ce (name_of ns c) ≡ o → is_some (class_of ce (name_of ns c)) ≡ false → add_instance ce i left ≡ refused (unknown_class (name_of ns c)) left
+      go : (o : Maybe ClassInfo) → class_of ce (name_of ns c) ≡ o → is_some (class_of ce (name_of ns c)) ≡ false → add_instance ce i left ≡ refused (unknown_class (name_of ns c)) left
       go none e f = rw (h, e)
       go (some ci) e f = absurd (true≢false (rw (← f, e)))
 
@@ -38,7 +38,7 @@ module _ {ns cl : List ℕ} {ce : ClassEnv} (D : Declared ns cl ce) (i : Instanc
   unfolding add_instance or_refuse after
   class_there k = go (class_of ce (name_of ns c)) refl (D.is c ∙ k)
     where
-      go : (o : Option ClassInfo) → class_of ce (name_of ns c) ≡ o → is_some (class_of ce (name_of ns c)) ≡ true → add_instance ce i left ≡ after (none_overlaps ce.instances i.head left) (λ u. pure (with_instance i ce))
+      go : (o : Maybe ClassInfo) → class_of ce (name_of ns c) ≡ o → is_some (class_of ce (name_of ns c)) ≡ true → add_instance ce i left ≡ after (none_overlaps ce.instances i.head left) (λ u. pure (with_instance i ce))
       go none e f = absurd (false≢true (rw (← f, e)))
       go (some ci) e f = rw (h, e)
 
@@ -92,6 +92,6 @@ pub instance_methods : {ns w : List ℕ} {top : ℕ} {mt : List ℕ} {ce : Class
 unfolding with_instance lookup_method
 instance_methods {ns} {w} {top} {mt} {ce} i M = record { is = λ m. go (name_of ns m) (method_at mt m) (M.is m) }
   where
-    go : (n : Name) (r : Method) → MethodAs ns w top ce n r → MethodAs ns w top (with_instance i ce) n r
-    go n (Of c t) o = record { info = o.info; class = o.class; node = o.node; is = o.is }
-    go n Nothing o = o
+    go : (n : Name) (r : Option Method) → MethodAs ns w top ce n r → MethodAs ns w top (with_instance i ce) n r
+    go n (Some q) o = record { info = o.info; class = o.class; node = o.node; is = o.is }
+    go n None o = o

@@ -18,10 +18,9 @@ use Rattle.errors.specs.declared.Refusal.TheVariants.{MissingSuperclass}
 use Rattle.supers.specs.ClassTable.{declared_at, super_words_of, Supers}
 use Rattle.classes.specs.Growing.{is_some, Declared}
 use Rattle.classes.specs.Adding.{Knows, ReadyClass, IsClass, PutClass, PutAs, Puts, AddsClass}
-use Rattle.classes.specs.declared.Known.{Known}
-use Rattle.classes.specs.declared.Known.TheVariants.{All, Missing}
-use Rattle.classes.specs.declared.Added.{Added}
-use Rattle.classes.specs.declared.Added.TheVariants.{Done, Refused, Full}
+use Rattle.std.specs.Prelude.{Result, Ok, Err}
+use Rattle.classes.specs.declared.NotAdded.{NotAdded}
+use Rattle.classes.specs.declared.NotAdded.TheVariants.{Refused, Full}
 use Rattle.classes.proofs.Grown.{new_declared, new_table, other_declared, other_supers, new_supers}
 
 -- ## The class environment
@@ -67,16 +66,16 @@ unfolding add_class after
 add_opens ce ci left e = rw e
 
 -- They are known.
-known_then : {ns cl : List ℕ} {rows used c : ℕ} {ss : List ℕ} {ce : ClassEnv} {ci : ClassInfo} → Knows cl ss All → ReadyClass ns cl rows used c ce → IsClass ns c ss ci → (left : ℕ)
+known_then : {ns cl : List ℕ} {rows used c : ℕ} {ss : List ℕ} {ce : ClassEnv} {ci : ClassInfo} {u : Unit {0}} → Knows cl ss (Ok u) → ReadyClass ns cl rows used c ce → IsClass ns c ss ci → (left : ℕ)
     → add_class ce ci left ≡ done (with_class ci ce) left
-known_then {ns} {cl} {rows} {used} {c} {ss} {ce} {ci} N R I left = add_opens ce ci left (rw (I.name, I.supers) (N.answer ns ce R.declared (name_of ns c) left))
+known_then {ns} {cl} {rows} {used} {c} {ss} {ce} {ci} {u} N R I left = add_opens ce ci left (rw (I.name, I.supers) (N.answer ns ce R.declared (name_of ns c) left))
 
 -- All superclasses are known: what `put_class` answers.
-pub adds_all : {cl cl' : List ℕ} {used c : ℕ} {ss : List ℕ} {k : Known} {r : Added} → Knows cl ss k → k ≡ All → Puts cl cl' used c ss r → AddsClass cl cl' used c ss r
-adds_all {cl} {cl'} {used} {c} {ss} {k} {r} N e P = go r P.is (rw e at N)
+pub adds_all : {cl cl' : List ℕ} {used c : ℕ} {ss : List ℕ} {k : Result (Unit {0}) ℕ} {u : Unit {0}} {r : Result ℕ NotAdded} → Knows cl ss k → k ≡ Ok u → Puts cl cl' used c ss r → AddsClass cl cl' used c ss r
+adds_all {cl} {cl'} {used} {c} {ss} {k} {u} {r} N e P = go r P.is (rw e at N)
   where
-    go : (x : Added) → PutAs cl cl' used c ss x → Knows cl ss All → AddsClass cl cl' used c ss x
-    go (Done u) p M = record {
+    go : (x : Result ℕ NotAdded) → PutAs cl cl' used c ss x → Knows cl ss (Ok u) → AddsClass cl cl' used c ss x
+    go (Ok used') p M = record {
       stands = tt;
       answer = λ ns rows left ce ci R I. record {
         is = known_then M R I left;
@@ -86,8 +85,8 @@ adds_all {cl} {cl'} {used} {c} {ss} {k} {r} N e P = go r P.is (rw e at N)
         declared = added_declared R I M.rows p;
       };
     }
-    go (Refused x) p M = absurd p
-    go Full p M = record {
+    go (Err (Refused x)) p M = absurd p
+    go (Err Full) p M = record {
       stands = p.0;
       answer = λ ns rows left ce ci R I. record {
         is = known_then M R I left;
@@ -96,7 +95,7 @@ adds_all {cl} {cl'} {used} {c} {ss} {k} {r} N e P = go r P.is (rw e at N)
     }
 
 -- One is missing: 21.
-pub adds_missing : {cl : List ℕ} {used c : ℕ} {ss : List ℕ} {k : Known} {s : ℕ} → Knows cl ss k → k ≡ Missing s → AddsClass cl cl used c ss (Refused (MissingSuperclass c s))
+pub adds_missing : {cl : List ℕ} {used c : ℕ} {ss : List ℕ} {k : Result (Unit {0}) ℕ} {s : ℕ} → Knows cl ss k → k ≡ Err s → AddsClass cl cl used c ss (Err (Refused (MissingSuperclass c s)))
 unfolding add_class after
 adds_missing {cl} {used} {c} {ss} {k} {s} N e = record {
   stands = refl;

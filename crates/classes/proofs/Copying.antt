@@ -1,43 +1,31 @@
--- Laws of the words that a new class takes: its superclasses are copied one by one, and then its row is written.
+-- Laws of the words that a new class takes: its superclasses are copied, and then its row is written.
 use mathlib.Core.Path.{◌≡◌, refl, ◌∙◌}
 use mathlib.Core.List.{List}
 use Prim.Native.Nat.{ℕ, ◌+◌, ◌*◌, ◌<◌, ◌≤◌}
-use native.Mathlib.Decide.{dec_lt}
 use native.Mathlib.Omega.{arith}
 use lib.ListN.{length, get_or, set, length-set}
 use lib.Seq.{get_or-set_same, get_or-set_other}
+use borrow.Rule.Slice.PartMut.{put_mid}
+use borrow.Author.Rules.{rules}
+use Rattle.std.proofs.lemmas.List.{places}
 use Rattle.classes.specs.Growing.{Copied}
 use Rattle.classes.specs.Adding.{Puts}
-use Rattle.classes.specs.declared.Added.TheVariants.{Done, Full}
+use Rattle.std.specs.Prelude.{Ok, Err}
+use Rattle.classes.specs.declared.NotAdded.TheVariants.{Full}
 
--- Before the loop.
-pub copied_none : (w : List ℕ) (at : ℕ) (ss : List ℕ) → Copied w w at ss 0
-copied_none w at ss = record { long = refl; new = λ j h. absurd (omega arith); low = λ j h. refl; high = λ j h. refl }
-
--- One more word.
-pub copied_next : {w w₁ : List ℕ} {at : ℕ} {ss : List ℕ} {i : ℕ} → Copied w w₁ at ss i → at + i < length w → Copied w (set w₁ (at + i) (get_or ss i 0)) at ss (i + 1)
-copied_next {w} {w₁} {at} {ss} {i} C h = record {
-  long = simp length-set C.long;
-  new = λ j k. go j k (dec_lt j i);
-  low = λ j k. get_or-set_other w₁ (at + i) j (get_or ss i 0) 0 (λ e. omega arith) ∙ C.low j k;
-  high = λ j k. get_or-set_other w₁ (at + i) j (get_or ss i 0) 0 (λ e. omega arith) ∙ C.high j (omega arith);
+-- The superclasses are written.
+pub copied : (w ss : List ℕ) (at k : ℕ) → length ss ≡ k → at + k ≤ length w → Copied w (put_mid at k w ss) at ss (length ss)
+copied w ss at k e h = record {
+  long = search (rules, places);
+  new = λ j l. search (rules, places);
+  low = λ j l. search (rules, places);
+  high = λ j l. search (rules, places);
 }
-  where
-    go : (j : ℕ) → j < i + 1 → Dec (j < i) → get_or (set w₁ (at + i) (get_or ss i 0)) (at + j) 0 ≡ get_or ss j 0
-    go j k (yes x) = get_or-set_other w₁ (at + i) (at + j) (get_or ss i 0) 0 (λ e. omega arith) ∙ C.new j x
-    go j k (no x) =
-        let z : j ≡ i = omega arith in
-        let l = C.long in
-        rw z (get_or-set_same w₁ (at + i) (get_or ss i 0) 0 (omega arith))
-
--- The loop is through.
-pub copied_all : {w w₁ : List ℕ} {at : ℕ} {ss : List ℕ} {i : ℕ} → Copied w w₁ at ss i → i ≤ length ss → length ss ≤ i → Copied w w₁ at ss (length ss)
-copied_all {w} {w₁} {at} {ss} {i} C h k = let z : length ss ≡ i = omega arith in rw z C
 
 -- ## The row
 
 -- There is no room.
-pub put_full : {cl ss : List ℕ} {used c : ℕ} → (2 * c + 1 < length cl → length cl < used + length ss) → Puts cl cl used c ss Full
+pub put_full : {cl ss : List ℕ} {used c : ℕ} → (2 * c + 1 < length cl → length cl < used + length ss) → Puts cl cl used c ss (Err Full)
 put_full h = record { is = (refl, h) }
 
 module _ {cl cl₁ ss : List ℕ} {used : ℕ} (c : ℕ) (C : Copied cl cl₁ used ss (length ss)) (row : 2 * c + 1 < length cl) (fits : used + length ss ≤ length cl) where
@@ -46,7 +34,7 @@ module _ {cl cl₁ ss : List ℕ} {used : ℕ} (c : ℕ) (C : Copied cl cl₁ us
   other j a b = get_or-set_other (set cl₁ (2 * c) used) (2 * c + 1) j (length ss) 0 (λ e. b (omega arith)) ∙ get_or-set_other cl₁ (2 * c) j used 0 (λ e. a (omega arith))
 
   -- The superclasses and the row are written.
-  pub put_done : Puts cl (set (set cl₁ (2 * c) used) (2 * c + 1) (length ss)) used c ss (Done (used + length ss))
+  pub put_done : Puts cl (set (set cl₁ (2 * c) used) (2 * c + 1) (length ss)) used c ss (Ok (used + length ss))
   put_done =
       let l = C.long in
       record {

@@ -16,7 +16,7 @@ use Rattle.supers.specs.ClassTable.{declared_at}
 use Rattle.supers.proofs.ClassLaws.{turned_true, turned_false}
 use Rattle.classes.specs.Growing.{is_some, Declared}
 use Rattle.classes.specs.Adding.{Knows}
-use Rattle.classes.specs.declared.Known.TheVariants.{All, Missing}
+use Rattle.std.specs.Prelude.{Ok, Err}
 
 -- The first i superclasses are declared.
 pub record Sure (cl ss : List ℕ) (i : ℕ) : Type 0 where
@@ -67,14 +67,14 @@ module _ {ns cl : List ℕ} {ce : ClassEnv} (D : Declared ns cl ce) (c : Name) (
   one_missing (s ∷ ss) (suc i) h k e = known_one s (map (name_of ns) ss) (h 0 (omega arith)) ∙ one_missing ss i (λ j x. h (suc j) (omega arith)) (omega arith) e
 
 -- The loop is through.
-pub knows_all : {cl ss : List ℕ} {i : ℕ} → Sure cl ss i → length ss ≤ i → Knows cl ss All
+pub knows_all : {cl ss : List ℕ} {i : ℕ} → Sure cl ss i → length ss ≤ i → Knows cl ss (Ok tt)
 knows_all {cl} {ss} {i} S h = record {
   rows = λ j k. S.is j (omega arith);
   answer = λ ns ce D c left. all_known D c left ss (λ j k. S.is j (omega arith));
 }
 
 -- One is missing.
-pub knows_missing : {cl ss : List ℕ} {i : ℕ} {r : Bool} → Sure cl ss i → i < length ss → r ≡ declared_at cl (get_or ss i 0) → not r ≡ true → Knows cl ss (Missing (get_or ss i 0))
+pub knows_missing : {cl ss : List ℕ} {i : ℕ} {r : Bool} → Sure cl ss i → i < length ss → r ≡ declared_at cl (get_or ss i 0) → not r ≡ true → Knows cl ss (Err (get_or ss i 0))
 knows_missing {cl} {ss} {i} S h e f = record {
   rows = tt;
   answer = λ ns ce D c left. one_missing D c left ss i S.is h (turned_true e f);

@@ -10,11 +10,9 @@ use borrow.Author.Tests.{lt-ltb, le-ltb}
 use Rattle.meaning.specs.Base.{if, eqb}
 use Rattle.names.proofs.Tests.{eq_yes, eq_no}
 use Rattle.pairs.specs.Pairs.{find_at}
-use Rattle.pairs.specs.declared.Found.{Found}
-use Rattle.pairs.specs.declared.Found.TheVariants.{At, Nothing}
-use Rattle.classes.specs.Method.{method_at, with_method, with_methods}
+use Rattle.classes.specs.Method.{of_class, method_at, with_method, with_methods}
 use Rattle.classes.specs.declared.Method.{Method}
-use Rattle.classes.specs.declared.Method.TheVariants.{Of, Nothing as Method-Nothing}
+use Rattle.std.specs.Prelude.{Option, Some, None}
 
 -- ## One row
 
@@ -24,12 +22,12 @@ unfolding method_at
 method_same mt mt' m l e f = rw (l, e, f)
 
 -- There is no row.
-pub method_out : (mt : List ℕ) (m : ℕ) → length mt ≤ 2 * m + 1 → method_at mt m ≡ Method-Nothing
+pub method_out : (mt : List ℕ) (m : ℕ) → length mt ≤ 2 * m + 1 → method_at mt m ≡ None
 unfolding method_at
 method_out mt m h = rw (le-ltb (2 * m + 1) (length mt) h)
 
 -- The row is the class's.
-pub method_own : (mt : List ℕ) (m c : ℕ) → 2 * m + 1 < length mt → get_or mt (2 * m) 0 ≡ c + 1 → method_at mt m ≡ Of c (get_or mt (2 * m + 1) 0)
+pub method_own : (mt : List ℕ) (m c : ℕ) → 2 * m + 1 < length mt → get_or mt (2 * m) 0 ≡ c + 1 → method_at mt m ≡ Some (of_class c (get_or mt (2 * m + 1) 0))
 unfolding method_at
 method_own mt m c h e = let z : c + 1 - 1 ≡ c = omega arith in rw (lt-ltb (2 * m + 1) (length mt) h, e, lt-ltb 0 (c + 1) (omega arith), z)
 
@@ -77,8 +75,8 @@ module _ (mt : List ℕ) (m c t : ℕ) (row : 2 * m + 1 < length mt) (h : get_or
   new_type : get_or (with_method mt m c t) (2 * m + 1) 0 ≡ t
   new_type = rw (with_new mt m c t h) (get_or-set_same (set mt (2 * m) (c + 1)) (2 * m + 1) t 0 (simp length-set row))
 
-  new_method : method_at (with_method mt m c t) m ≡ Of c t
-  new_method = let l = with_long mt m c t in method_own (with_method mt m c t) m c (omega arith) new_key ∙ ap (Of c) new_type
+  new_method : method_at (with_method mt m c t) m ≡ Some (of_class c t)
+  new_method = let l = with_long mt m c t in method_own (with_method mt m c t) m c (omega arith) new_key ∙ ap (λ (x : ℕ). Some (of_class c x)) new_type
 
 -- ## All of them
 
@@ -103,9 +101,9 @@ all_own mt c sl at (suc k) m e = go (ℕ_discrete (get_or sl at 0) m) (λ mt₁ 
         ih _ (x ∙ e) ∙ method_same mt _ m (with_long mt (get_or sl at 0) c (get_or sl (at + 1) 0)) x y
 
 -- What was found, or what was there.
-abbrev pub or_old : Found → ℕ → Method → Method
-or_old (At t) c r = Of c t
-or_old Nothing c r = r
+abbrev pub or_old : Option ℕ → ℕ → Option Method → Option Method
+or_old (Some t) c r = Some (of_class c t)
+or_old None c r = r
 
 -- Any other is the first signature's, or what it was.
 pub all_found : (mt : List ℕ) (c : ℕ) (sl : List ℕ) (at k m : ℕ) → 2 * m + 1 < length mt → (get_or mt (2 * m) 0 ≡ c + 1 → ⊥) → method_at (with_methods mt c sl at k) m ≡ or_old (find_at sl at k m) c (method_at mt m)
@@ -114,7 +112,7 @@ all_found mt c sl at zero m r h = refl
 all_found mt c sl at (suc k) m r h = go (ℕ_discrete (get_or sl at 0) m) (λ mt₁ f g. all_found mt₁ c sl (at + 2) k m f g)
   where
     go : Dec (get_or sl at 0 ≡ m) → ((mt₁ : List ℕ) → 2 * m + 1 < length mt₁ → (get_or mt₁ (2 * m) 0 ≡ c + 1 → ⊥) → method_at (with_methods mt₁ c sl (at + 2) k) m ≡ or_old (find_at sl (at + 2) k m) c (method_at mt₁ m))
-        → method_at (with_methods (with_method mt (get_or sl at 0) c (get_or sl (at + 1) 0)) c sl (at + 2) k) m ≡ or_old (if (eqb (get_or sl at 0) m) (At (get_or sl (at + 1) 0)) (find_at sl (at + 2) k m)) c (method_at mt m)
+        → method_at (with_methods (with_method mt (get_or sl at 0) c (get_or sl (at + 1) 0)) c sl (at + 2) k) m ≡ or_old (if (eqb (get_or sl at 0) m) (Some (get_or sl (at + 1) 0)) (find_at sl (at + 2) k m)) c (method_at mt m)
     go (yes q) ih =
         rw (eq_yes (get_or sl at 0) m q, q)
         (all_own (with_method mt m c (get_or sl (at + 1) 0)) c sl (at + 2) k m (new_key mt m c (get_or sl (at + 1) 0) r h) ∙ new_method mt m c (get_or sl (at + 1) 0) r h)
@@ -125,15 +123,15 @@ all_found mt c sl at (suc k) m r h = go (ℕ_discrete (get_or sl at 0) m) (λ mt
         rw (eq_no (get_or sl at 0) m q) (ih _ (omega arith) (λ z. h (sym x ∙ z)) ∙ ap (or_old (find_at sl (at + 2) k m) c) (method_same mt _ m l x y))
 
 -- What is found is one of the pairs.
-pub find_one : (P : ℕ → ℕ → Type 0) (sl : List ℕ) (at k m t : ℕ) → ((i : ℕ) → i < k → P (get_or sl (at + 2 * i) 0) (get_or sl (at + 2 * i + 1) 0)) → find_at sl at k m ≡ At t → P m t
+pub find_one : (P : ℕ → ℕ → Type 0) (sl : List ℕ) (at k m t : ℕ) → ((i : ℕ) → i < k → P (get_or sl (at + 2 * i) 0) (get_or sl (at + 2 * i + 1) 0)) → find_at sl at k m ≡ Some t → P m t
 unfolding find_at
 find_one P sl at zero m t h e = let z : ◌≡◌ {A = ℕ} 0 1 = cc in absurd (omega arith)
 find_one P sl at (suc k) m t h e = go (ℕ_discrete (get_or sl at 0) m) (find_one P sl (at + 2) k m t (λ i l. let x : at + 2 + 2 * i ≡ at + 2 * suc i = omega arith in rw x (h (suc i) (omega arith))))
   where
-    go : Dec (get_or sl at 0 ≡ m) → (find_at sl (at + 2) k m ≡ At t → P m t) → P m t
+    go : Dec (get_or sl at 0 ≡ m) → (find_at sl (at + 2) k m ≡ Some t → P m t) → P m t
     go (yes q) ih =
         let x : at + 2 * 0 ≡ at = omega arith in
-        let f : At (get_or sl (at + 1) 0) ≡ At t = rw (eq_yes (get_or sl at 0) m q) at e in
+        let f : Some (get_or sl (at + 1) 0) ≡ Some t = rw (eq_yes (get_or sl at 0) m q) at e in
         let g : get_or sl (at + 1) 0 ≡ t = cc in
         rw (← q, ← g) (rw x at (h 0 (omega arith)))
     go (no q) ih = ih (rw (eq_no (get_or sl at 0) m q) at e)

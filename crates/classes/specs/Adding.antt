@@ -1,5 +1,5 @@
 -- `add_class` and `add_instance`: what the code asks of the words and gives.
-use Rattle.std.specs.Prelude.{◌≡◌, true, false, List, map, ℕ, ◌+◌, ◌*◌, ◌<◌, ◌≤◌, length, get_or}
+use Rattle.std.specs.Prelude.{◌≡◌, true, false, List, map, ℕ, ◌+◌, ◌*◌, ◌<◌, ◌≤◌, length, get_or, Result, Ok, Err}
 use Rattle.meaning.specs.Ast.{Name, Pred}
 use Rattle.meaning.specs.Errors.{missing_superclass}
 use Rattle.meaning.specs.Budget.{Out, done, refused}
@@ -8,29 +8,27 @@ use Rattle.names.specs.Names.{name_of, Names}
 use Rattle.errors.specs.Refusals.{Refuses}
 use Rattle.pairs.specs.Pairs.{Stands}
 use Rattle.instances.specs.Accepted.{Instances}
-use Rattle.instances.specs.declared.Apart.{Apart}
-use Rattle.instances.specs.declared.Apart.TheVariants.{All as Apart-All, Refused as Apart-Refused}
+use Rattle.instances.specs.Apart.{Apart}
+use Rattle.instances.specs.Apart.{All as Apart-All, Refused as Apart-Refused}
 use Rattle.supers.specs.ClassTable.{declared_at, Supers}
 use Rattle.classes.specs.Growing.{Declared, ClassTable}
-use Rattle.classes.specs.declared.Known.{Known}
-use Rattle.classes.specs.declared.Known.TheVariants.{All, Missing}
-use Rattle.classes.specs.declared.Added.{Added}
-use Rattle.classes.specs.declared.Added.TheVariants.{Done, Refused, Full}
+use Rattle.classes.specs.declared.NotAdded.{NotAdded}
+use Rattle.classes.specs.declared.NotAdded.TheVariants.{Refused, Full}
 
 -- ## Superclasses
 
 -- For an outcome of `supers_known` for the class c: all are known, or this one is missing. It costs no step.
-abbrev pub KnownAs : List ℕ → Name → ℕ → Out (Unit {0}) → Known → Type 0
-KnownAs ns c left o All = o ≡ done tt left
-KnownAs ns c left o (Missing s) = o ≡ refused (missing_superclass c (name_of ns s)) left
+abbrev pub KnownAs : List ℕ → Name → ℕ → Out (Unit {0}) → Result (Unit {0}) ℕ → Type 0
+KnownAs ns c left o (Ok u) = o ≡ done tt left
+KnownAs ns c left o (Err s) = o ≡ refused (missing_superclass c (name_of ns s)) left
 
 -- Where all are known, each has its row.
-abbrev pub RowsOf : List ℕ → List ℕ → Known → Type 0
-RowsOf cl ss All = (i : ℕ) → i < length ss → declared_at cl (get_or ss i 0) ≡ true
-RowsOf cl ss (Missing s) = Unit {0}
+abbrev pub RowsOf : List ℕ → List ℕ → Result (Unit {0}) ℕ → Type 0
+RowsOf cl ss (Ok u) = (i : ℕ) → i < length ss → declared_at cl (get_or ss i 0) ≡ true
+RowsOf cl ss (Err s) = Unit {0}
 
 -- The answer for the superclasses ss, of every class in every class environment that the table has.
-pub record Knows (cl ss : List ℕ) (r : Known) : Type 0 where
+pub record Knows (cl ss : List ℕ) (r : Result (Unit {0}) ℕ) : Type 0 where
   pub rows : RowsOf cl ss r
   pub answer : (ns : List ℕ) (ce : ClassEnv) → Declared ns cl ce → (c : Name) (left : ℕ) → KnownAs ns c left (supers_known ce c (map (name_of ns) ss) left) r
 
@@ -63,12 +61,12 @@ pub record PutClass (cl cl' : List ℕ) (used c : ℕ) (ss : List ℕ) (used' : 
   pub high : (j : ℕ) → (j ≡ 2 * c → ⊥) → (j ≡ 2 * c + 1 → ⊥) → used' ≤ j → get_or cl' j 0 ≡ get_or cl j 0
 
 -- It is written, or there is no room for it.
-abbrev pub PutAs : List ℕ → List ℕ → ℕ → ℕ → List ℕ → Added → Type 0
-PutAs cl cl' used c ss (Done used') = PutClass cl cl' used c ss used'
-PutAs cl cl' used c ss (Refused e) = ⊥
-PutAs cl cl' used c ss Full = (cl' ≡ cl) × (2 * c + 1 < length cl → length cl < used + length ss)
+abbrev pub PutAs : List ℕ → List ℕ → ℕ → ℕ → List ℕ → Result ℕ NotAdded → Type 0
+PutAs cl cl' used c ss (Ok used') = PutClass cl cl' used c ss used'
+PutAs cl cl' used c ss (Err (Refused e)) = ⊥
+PutAs cl cl' used c ss (Err Full) = (cl' ≡ cl) × (2 * c + 1 < length cl → length cl < used + length ss)
 
-pub record Puts (cl cl' : List ℕ) (used c : ℕ) (ss : List ℕ) (r : Added) : Type 0 where
+pub record Puts (cl cl' : List ℕ) (used c : ℕ) (ss : List ℕ) (r : Result ℕ NotAdded) : Type 0 where
   pub is : PutAs cl cl' used c ss r
 
 -- The class is added: the table is that of the class environment with it, and a class table again.
@@ -85,19 +83,19 @@ pub record NoRoom (cl : List ℕ) (used : ℕ) (ss : List ℕ) (ce : ClassEnv) (
   pub short : length cl < used + length ss
 
 -- For the outcome of `add_class`: the class is added; or it is refused, for no step; or there is no room.
-abbrev pub AddedAs : List ℕ → List ℕ → List ℕ → ℕ → ℕ → List ℕ → ClassEnv → ClassInfo → ℕ → Added → Type 0
-AddedAs ns cl cl' rows used ss ce ci left (Done used') = AddedClass ns cl' rows used ss ce ci left used'
-AddedAs ns cl cl' rows used ss ce ci left (Refused e) = (w : List ℕ) (top : ℕ) → Refuses ns w top left (add_class ce ci left) e top left
-AddedAs ns cl cl' rows used ss ce ci left Full = NoRoom cl used ss ce ci left
+abbrev pub AddedAs : List ℕ → List ℕ → List ℕ → ℕ → ℕ → List ℕ → ClassEnv → ClassInfo → ℕ → Result ℕ NotAdded → Type 0
+AddedAs ns cl cl' rows used ss ce ci left (Ok used') = AddedClass ns cl' rows used ss ce ci left used'
+AddedAs ns cl cl' rows used ss ce ci left (Err (Refused e)) = (w : List ℕ) (top : ℕ) → Refuses ns w top left (add_class ce ci left) e top left
+AddedAs ns cl cl' rows used ss ce ci left (Err Full) = NoRoom cl used ss ce ci left
 
 -- The table is as it was, unless the class was added.
-abbrev pub Unless : List ℕ → List ℕ → Added → Type 0
-Unless cl cl' (Done used') = Unit {0}
-Unless cl cl' (Refused e) = cl' ≡ cl
-Unless cl cl' Full = cl' ≡ cl
+abbrev pub Unless : List ℕ → List ℕ → Result ℕ NotAdded → Type 0
+Unless cl cl' (Ok used') = Unit {0}
+Unless cl cl' (Err (Refused e)) = cl' ≡ cl
+Unless cl cl' (Err Full) = cl' ≡ cl
 
 -- The answer, for every class of this name and these superclasses, in every class environment that the table has.
-pub record AddsClass (cl cl' : List ℕ) (used c : ℕ) (ss : List ℕ) (r : Added) : Type 0 where
+pub record AddsClass (cl cl' : List ℕ) (used c : ℕ) (ss : List ℕ) (r : Result ℕ NotAdded) : Type 0 where
   pub stands : Unless cl cl' r
   pub answer : (ns : List ℕ) (rows left : ℕ) (ce : ClassEnv) (ci : ClassInfo) → ReadyClass ns cl rows used c ce → IsClass ns c ss ci → AddedAs ns cl cl' rows used ss ce ci left r
 

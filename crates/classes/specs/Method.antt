@@ -1,6 +1,6 @@
 -- The method table: for the method of name m, word 2 * m is the name of its class plus one, or zero where no class has it, and
 -- word 2 * m + 1 the type of that class's first signature of the name.
-use Rattle.std.specs.Prelude.{◌≡◌, List, [], ◌∷◌, ℕ, zero, suc, ◌+◌, ◌*◌, ◌-◌, ◌/◌, ◌<◌, ltb, length, get_or, set}
+use Rattle.std.specs.Prelude.{◌≡◌, List, [], ◌∷◌, ℕ, zero, suc, ◌+◌, ◌*◌, ◌-◌, ◌/◌, ◌<◌, ltb, length, get_or, set, Option, Some, None}
 use Rattle.std.proofs.Math.Option.{none, some}
 use Rattle.meaning.specs.Base.{if, eqb}
 use Rattle.meaning.specs.Ast.{Name, Ty}
@@ -8,11 +8,14 @@ use Rattle.meaning.specs.Classes.{ClassEnv, ClassInfo, class_of, with_class, loo
 use Rattle.names.specs.Names.{name_of, Names}
 use Rattle.ast.specs.Table.{tree, Node}
 use Rattle.classes.specs.declared.Method.{Method}
-use Rattle.classes.specs.declared.Method.TheVariants.{Of, Nothing}
+
+-- A method of the class of name c, with the type of word t.
+abbrev pub of_class : ℕ → ℕ → Method
+of_class c t = record { class = c; ty = t }
 
 -- What the table has for the method of name m.
-unfoldable pub method_at : List ℕ → ℕ → Method
-method_at mt m = if (ltb (2 * m + 1) (length mt)) (if (ltb 0 (get_or mt (2 * m) 0)) (Of (get_or mt (2 * m) 0 - 1) (get_or mt (2 * m + 1) 0)) Nothing) Nothing
+unfoldable pub method_at : List ℕ → ℕ → Option Method
+method_at mt m = if (ltb (2 * m + 1) (length mt)) (if (ltb 0 (get_or mt (2 * m) 0)) (Some (of_class (get_or mt (2 * m) 0 - 1) (get_or mt (2 * m + 1) 0))) None) None
 
 -- The method belongs to the class of name c, and t is its type there.
 pub record OfClass (ns w : List ℕ) (top : ℕ) (ce : ClassEnv) (m : Name) (c t : ℕ) : Type 0 where
@@ -22,16 +25,16 @@ pub record OfClass (ns w : List ℕ) (top : ℕ) (ce : ClassEnv) (m : Name) (c t
   pub is : lookup_method ce m ≡ some (info, tree ns w t)
 
 -- For the outcome of `lookup_method`: a class and a type of the table, or nothing.
-abbrev pub MethodAs : List ℕ → List ℕ → ℕ → ClassEnv → Name → Method → Type 0
-MethodAs ns w top ce m (Of c t) = OfClass ns w top ce m c t
-MethodAs ns w top ce m Nothing = lookup_method ce m ≡ none
+abbrev pub MethodAs : List ℕ → List ℕ → ℕ → ClassEnv → Name → Option Method → Type 0
+MethodAs ns w top ce m (Some q) = OfClass ns w top ce m q.class q.ty
+MethodAs ns w top ce m None = lookup_method ce m ≡ none
 
 -- The table says what the class environment has.
 pub record Methods (ns w : List ℕ) (top : ℕ) (mt : List ℕ) (ce : ClassEnv) : Type 0 where
   pub is : (m : ℕ) → MethodAs ns w top ce (name_of ns m) (method_at mt m)
 
 -- The answer, for every class environment of which the table says the methods.
-pub record LooksUp (mt : List ℕ) (m : ℕ) (r : Method) : Type 0 where
+pub record LooksUp (mt : List ℕ) (m : ℕ) (r : Option Method) : Type 0 where
   pub at : r ≡ method_at mt m
   pub answer : (ns w : List ℕ) (top : ℕ) (ce : ClassEnv) → Methods ns w top mt ce → MethodAs ns w top ce (name_of ns m) r
 

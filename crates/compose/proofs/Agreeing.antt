@@ -15,17 +15,15 @@ use Rattle.meaning.specs.Subst.{Subst, agree_at, agree, merge}
 use Rattle.names.specs.Names.{Names, tyvar_of}
 use Rattle.ast.specs.Table.{tree, Node}
 use Rattle.ast.proofs.Laws.{kept_refl}
+use Rattle.errors.specs.declared.Refusal.{Refusal}
 use Rattle.errors.specs.declared.Refusal.TheVariants.{UnificationFailure}
 use Rattle.pairs.specs.Pairs.{sub_at, find_at}
-use Rattle.pairs.specs.declared.Found.{Found}
-use Rattle.pairs.specs.declared.Found.TheVariants.{At, Nothing}
 use Rattle.pairs.proofs.Looks.{type_of, get_is, found_node}
-use Rattle.apply.specs.declared.Applied.TheVariants.{Done, Refused}
-use Rattle.compose.specs.declared.Agreed.{Agreed}
-use Rattle.compose.specs.declared.Agreed.TheVariants.{All, Clash}
+use Rattle.apply.specs.Applied.{Done, Refused}
 use Rattle.compose.specs.Compose.{Both, Regions, Agrees, Merged, GivesSub}
 use Rattle.compose.proofs.Orders.{sorted_merge, merge_is}
 use Rattle.compose.proofs.Pieces.{sub_at_lem}
+use Rattle.std.specs.Prelude.{Option, Some, None, Result, Ok, Err}
 
 -- ## one pair
 -- A test whose opposite fails.
@@ -60,7 +58,7 @@ pub record Agreeing (ns w : List ℕ) (lo k₂ k₁ i : ℕ) : Type 0 where
   pub upto : i ≤ k₁
   pub is : (left : ℕ) → agree (sub_at ns w (lo + 2 * k₂) k₁) (sub_at ns w lo k₂) left ≡ agree (sub_at ns w (lo + 2 * k₂ + 2 * i) (k₁ - i)) (sub_at ns w lo k₂) left
 
--- At first nothing is said.
+-- Some first nothing is said.
 pub agreeing : (ns w : List ℕ) (lo k₂ k₁ : ℕ) → Agreeing ns w lo k₂ k₁ 0
 agreeing ns w lo k₂ k₁ =
     let e : lo + 2 * k₂ + 2 * 0 ≡ lo + 2 * k₂ = omega arith in
@@ -72,11 +70,16 @@ pub first_node_of : {ns w : List ℕ} {top lo k₂ k₁ i v : ℕ} → Regions n
 first_node_of {i = i} R h e = record { table = R.table; below = rw e (R.other.bound.node i h) }
 
 -- What is found for its variable is one too.
-pub second_node_of : {ns w : List ℕ} {top lo k₂ k₁ u : ℕ} (x : ℕ) {f : Found} → Regions ns w top lo k₂ k₁ → f ≡ find_at w lo k₂ x → f ≡ At u → Node w top u
+pub second_node_of : {ns w : List ℕ} {top lo k₂ k₁ u : ℕ} (x : ℕ) {f : Option ℕ} → Regions ns w top lo k₂ k₁ → f ≡ find_at w lo k₂ x → f ≡ Some u → Node w top u
 second_node_of x R e h = found_node x R.table R.self e h
 
+-- Where nothing is found.
+pub nothing : (f : Option ℕ) → ((u : ℕ) → f ≡ Some u → ⊥) → f ≡ None
+nothing (Some u) n = absurd (n u refl)
+nothing None n = refl
+
 module _ {ns w : List ℕ} {lo k₂ k₁ i : ℕ} (A : Agreeing ns w lo k₂ k₁ i) (N : Names ns) (h : i < k₁)
-    {x v : ℕ} (ex : x ≡ get_or w (lo + 2 * k₂ + 2 * i) 0) (ev : v ≡ get_or w (lo + 2 * k₂ + 2 * i + 1) 0) {f : Found} (ef : f ≡ find_at w lo k₂ x) where
+    {x v : ℕ} (ex : x ≡ get_or w (lo + 2 * k₂ + 2 * i) 0) (ev : v ≡ get_or w (lo + 2 * k₂ + 2 * i + 1) 0) {f : Option ℕ} (ef : f ≡ find_at w lo k₂ x) where
   -- The pairs from the i-th on.
   opened : (left : ℕ) → agree (sub_at ns w (lo + 2 * k₂) k₁) (sub_at ns w lo k₂) left
       ≡ agree ((tyvar_of ns x, tree ns w v) ∷ sub_at ns w (lo + 2 * k₂ + 2 * (i + 1)) (k₁ - (i + 1))) (sub_at ns w lo k₂) left
@@ -86,42 +89,47 @@ module _ {ns w : List ℕ} {lo k₂ k₁ i : ℕ} (A : Agreeing ns w lo k₂ k�
   found : get tyvars (tyvar_of ns x) (sub_at ns w lo k₂) ≡ type_of ns w f
   found = rw ef (get_is ns N w lo k₂ x)
 
-  -- Nothing: the pair agrees.
-  pub agreeing_absent : f ≡ Nothing → Agreeing ns w lo k₂ k₁ (i + 1)
+  -- None: the pair agrees.
+  pub agreeing_absent : f ≡ None → Agreeing ns w lo k₂ k₁ (i + 1)
   agreeing_absent e = record { upto = omega arith; is = λ left. opened left ∙ agree_absent _ _ _ left (found ∙ ap (type_of ns w) e) }
 
-  module _ {u : ℕ} (e : f ≡ At u) {b : Bool} (eb : b ≡ is_yes (same_ty (tree ns w v) (tree ns w u))) where
+  module _ {u : ℕ} (e : f ≡ Some u) {b : Bool} (eb : b ≡ is_yes (same_ty (tree ns w v) (tree ns w u))) where
     -- The same type: the pair agrees.
     pub agreeing_same : not b ≡ false → Agreeing ns w lo k₂ k₁ (i + 1)
     agreeing_same t = record { upto = omega arith; is = λ left. opened left ∙ agree_same _ _ _ (tree ns w u) left (found ∙ ap (type_of ns w) e) (sym eb ∙ not_false b t) }
 
     -- Another type: that is the answer.
-    pub agreed_not : {top : ℕ} → not b ≡ true → Regions ns w top lo k₂ k₁ → Agrees ns w top lo k₂ k₁ (Clash v u)
+    pub agreed_not : {top : ℕ} → not b ≡ true → Regions ns w top lo k₂ k₁ → Agrees ns w top lo k₂ k₁ (Err (UnificationFailure v u))
     agreed_not t R = record {
-      says = (first_node_of R h ev, second_node_of x R ef e, λ left. opened left ∙ agree_not _ _ _ (tree ns w u) left (found ∙ ap (type_of ns w) e) (sym eb ∙ not_true b t));
+      says = λ left. record {
+        is = opened left ∙ agree_not _ _ _ (tree ns w u) left (found ∙ ap (type_of ns w) e) (sym eb ∙ not_true b t);
+        types = (first_node_of R h ev, second_node_of x R ef e);
+        more = omega arith;
+        down = omega arith;
+      };
     }
 
 -- All pairs agree.
-pub agreed : {ns w : List ℕ} {top lo k₂ k₁ i : ℕ} → Agreeing ns w lo k₂ k₁ i → k₁ ≤ i → Agrees ns w top lo k₂ k₁ All
+pub agreed : {ns w : List ℕ} {top lo k₂ k₁ i : ℕ} → Agreeing ns w lo k₂ k₁ i → k₁ ≤ i → Agrees ns w top lo k₂ k₁ (Ok tt)
 unfolding agree sub_at
 agreed {k₁ = k₁} {i = i} A h = let e : k₁ - i ≡ 0 = omega arith in record { says = λ left. A.is left ∙ rw e }
 
 -- ## merge_pairs
-module _ {ns w : List ℕ} {top left lo k₂ k₁ : ℕ} (B : Both ns w top left lo k₂ k₁) {r : Agreed} (A : Agrees ns w top lo k₂ k₁ r) where
+module _ {ns w : List ℕ} {top left lo k₂ k₁ : ℕ} (B : Both ns w top left lo k₂ k₁) {r : Result (Unit {0}) Refusal} (A : Agrees ns w top lo k₂ k₁ r) where
   -- Two types of one variable.
-  pub pairs_clash : {v u : ℕ} → r ≡ Clash v u → GivesSub (4 * top + 8 * left + 2 * k₂ + 2 * k₁) ns w w top left (lo + 2 * k₂ + 2 * k₁)
-      (merge (sub_at ns w (lo + 2 * k₂) k₁) (sub_at ns w lo k₂) left) (Refused (UnificationFailure v u) top left)
+  pub pairs_clash : {q : Refusal} → r ≡ Err q → GivesSub (4 * top + 8 * left + 2 * k₂ + 2 * k₁) ns w w top left (lo + 2 * k₂ + 2 * k₁)
+      (merge (sub_at ns w (lo + 2 * k₂) k₁) (sub_at ns w lo k₂) left) (Refused q top left)
   unfolding merge after
   pairs_clash e =
       let Z = rw e at A.says in
       record {
         stands = record { low = kept_refl _ _; high = λ i h. refl };
         mid = λ q a b. refl;
-        answer = record { is = rw (Z.2 left); types = (Z.0, Z.1); more = omega arith; down = omega arith };
+        answer = record { is = rw (Z left).is; types = (Z left).types; more = omega arith; down = omega arith };
       }
 
   -- One region.
-  pub pairs_merged : {w' : List ℕ} {c : ℕ} → r ≡ All → Merged ns w w' lo k₂ k₁ c → GivesSub (4 * top + 8 * left + 2 * k₂ + 2 * k₁) ns w w' top left (lo + 2 * k₂ + 2 * k₁)
+  pub pairs_merged : {w' : List ℕ} {c : ℕ} {v : Unit {0}} → r ≡ Ok v → Merged ns w w' lo k₂ k₁ c → GivesSub (4 * top + 8 * left + 2 * k₂ + 2 * k₁) ns w w' top left (lo + 2 * k₂ + 2 * k₁)
       (merge (sub_at ns w (lo + 2 * k₂) k₁) (sub_at ns w lo k₂) left) (Done c top left)
   unfolding merge after
   pairs_merged e M =

@@ -11,8 +11,8 @@ use Rattle.ast.specs.Table.{Table}
 use Rattle.errors.specs.Refusals.{refusal_of, Refuses}
 use Rattle.errors.specs.declared.Refusal.{Refusal}
 use Rattle.pairs.specs.Pairs.{sub_at, Sub, Stands}
-use Rattle.apply.specs.declared.Applied.{Applied}
-use Rattle.apply.specs.declared.Applied.TheVariants.{Done, Refused}
+use Rattle.apply.specs.Applied.{Applied}
+use Rattle.apply.specs.Applied.{Done, Refused}
 use Rattle.compose.specs.Answers.{GrownU, AnswerU, GivesU}
 use Rattle.pairs.proofs.Frames.{stands_refl, stands_then}
 

@@ -11,16 +11,15 @@ use Rattle.meaning.specs.Subst.{Subst}
 use Rattle.names.specs.Names.{Names, tyvar_of}
 use Rattle.ast.specs.Table.{tree, Node, Kept}
 use Rattle.pairs.specs.Pairs.{sub_at, find_at, Sub}
-use Rattle.pairs.specs.declared.Found.{Found}
-use Rattle.pairs.specs.declared.Found.TheVariants.{At, Nothing}
 use Rattle.pairs.proofs.Frames.{sub_same}
 use Rattle.pairs.proofs.Looks.{type_of, get_is}
 use Rattle.compose.specs.Compose.{new_at, insert_new, merge_new, Fits, Opened, Added, Both, Merged}
 use Rattle.compose.proofs.Pieces.{sub_snoc, below_first}
+use Rattle.std.specs.Prelude.{Option, Some, None}
 
 -- ## add
 -- The variable is there already.
-pub added_old : {ns : List ℕ} (w : List ℕ) (hi c x n : ℕ) {f : Found} {m : ℕ} → Names ns → f ≡ find_at w (hi - 2 * c) c x → f ≡ At m → Added ns w w hi c x n c
+pub added_old : {ns : List ℕ} (w : List ℕ) (hi c x n : ℕ) {f : Option ℕ} {m : ℕ} → Names ns → f ≡ find_at w (hi - 2 * c) c x → f ≡ Some m → Added ns w w hi c x n c
 unfolding insert_new new_at
 added_old {ns} w hi c x n N e h = record {
   before = λ q a. refl;
@@ -31,7 +30,7 @@ added_old {ns} w hi c x n N e h = record {
 }
 
 -- The pair is new.
-pub added_new : {ns w w' : List ℕ} {hi c x n : ℕ} {f : Found} → Names ns → 2 * c + 2 ≤ hi → f ≡ find_at w (hi - 2 * c) c x → f ≡ Nothing
+pub added_new : {ns w w' : List ℕ} {hi c x n : ℕ} {f : Option ℕ} → Names ns → 2 * c + 2 ≤ hi → f ≡ find_at w (hi - 2 * c) c x → f ≡ None
     → Opened ns w w' (hi - 2 * c - 2) c x n → Added ns w w' hi c x n (c + 1)
 unfolding insert_new new_at
 added_new {ns} {w} {w'} {hi} {c} {x} {n} N r e h O =
@@ -66,7 +65,7 @@ pub record Merging (ns w₀ w : List ℕ) (lo k₂ k₁ j c : ℕ) : Type 0 wher
   pub after : (q : ℕ) → lo + 2 * k₂ + 2 * k₁ ≤ q → get_or w q 0 ≡ get_or w₀ q 0
   pub given : (top left : ℕ) → Both ns w₀ top left lo k₂ k₁ → MergingAs ns w₀ w lo k₂ k₁ j c top
 
--- At first all pairs are left.
+-- Some first all pairs are left.
 pub merging : (ns w : List ℕ) (lo k₂ k₁ : ℕ) → Merging ns w w lo k₂ k₁ k₂ k₁
 merging ns w lo k₂ k₁ = record {
   long = refl;

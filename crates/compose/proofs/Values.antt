@@ -2,6 +2,7 @@
 use Prim.Native.Nat.{ℕ, ◌+◌, ◌*◌, ◌-◌, ◌<◌, ◌≤◌}
 use native.Mathlib.Omega.{arith}
 use mathlib.Core.Path.{◌≡◌, refl, ◌∙◌}
+use Rattle.std.specs.Prelude.{Result, Ok, Err}
 use mathlib.Core.Logic.{◌⊎◌, inl, inr}
 use mathlib.Core.List.{List, [], ◌∷◌, ◌++◌, append_assoc, append-nil}
 use lib.ListN.{length, get_or, set, length-set}
@@ -17,8 +18,8 @@ use Rattle.errors.specs.declared.Refusal.{Refusal}
 use Rattle.pairs.specs.Pairs.{sub_at, Below, Sub, Stands}
 use Rattle.pairs.proofs.Frames.{stands_then, sub_same}
 use Rattle.apply.specs.Region.{Ready, Grown, Gives}
-use Rattle.apply.specs.declared.Applied.{Applied}
-use Rattle.apply.specs.declared.Applied.TheVariants.{Done, Refused}
+use Rattle.apply.specs.Applied.{Applied}
+use Rattle.apply.specs.Applied.{Done, Refused}
 use Rattle.compose.specs.Compose.{Both, Merged, Swept, GivesSub}
 use Rattle.compose.proofs.Orders.{sorted_merge, merge_is}
 use Rattle.compose.proofs.Pieces.{same_or, sub_at_lem, sub_snoc, below_first, below_part, sorted_keys}
@@ -110,7 +111,7 @@ module _ {ns w₀ : List ℕ} {top₀ left₀ lo k₂ k₁ : ℕ} {w : List ℕ}
       between q a b = let z = S.spent in G.stands.high q (omega arith) ∙ S.mid q a b
 
       -- A refusal ends the sweep.
-      pub sweeping_fails : {u : Refusal} {t l : ℕ} → r ≡ Refused u t l → Swept ns w₀ w₁ top₀ left₀ lo k₂ k₁ (apply_values (sub_at ns w₀ lo k₂) (sub_at ns w₀ (lo + 2 * k₂) k₁) left₀) (Refused u t l)
+      pub sweeping_fails : {u : Refusal} {t l : ℕ} → r ≡ Refused u t l → Swept ns w₀ w₁ top₀ left₀ lo k₂ k₁ (apply_values (sub_at ns w₀ lo k₂) (sub_at ns w₀ (lo + 2 * k₂) k₁) left₀) (Err u) t l
       sweeping_fails k =
           let Z = rw k at G.answer in
           let zm = Z.more in
@@ -240,7 +241,7 @@ module _ {ns w₀ : List ℕ} {top₀ left₀ lo k₂ k₁ : ℕ} {w : List ℕ}
         sweeping_on f = rw f sweeping_on₂
 
   -- All have.
-  pub swept : k₁ ≤ i → Swept ns w₀ w top₀ left₀ lo k₂ k₁ (apply_values (sub_at ns w₀ lo k₂) (sub_at ns w₀ (lo + 2 * k₂) k₁) left₀) (Done k₁ top left)
+  pub swept : k₁ ≤ i → Swept ns w₀ w top₀ left₀ lo k₂ k₁ (apply_values (sub_at ns w₀ lo k₂) (sub_at ns w₀ (lo + 2 * k₂) k₁) left₀) (Ok tt) top left
   unfolding apply_values sub_at after
   swept h =
       let u = S.upto in
@@ -253,10 +254,10 @@ module _ {ns w₀ : List ℕ} {top₀ left₀ lo k₂ k₁ : ℕ} {w : List ℕ}
       }
 
 -- ## compose_in
-module _ {ns w w₁ : List ℕ} {top left lo k₂ k₁ : ℕ} {r : Applied}
-    (S : Swept ns w w₁ top left lo k₂ k₁ (apply_values (sub_at ns w lo k₂) (sub_at ns w (lo + 2 * k₂) k₁) left) r) where
+module _ {ns w w₁ : List ℕ} {top left lo k₂ k₁ t l : ℕ} {r : Result (Unit {0}) Refusal}
+    (S : Swept ns w w₁ top left lo k₂ k₁ (apply_values (sub_at ns w lo k₂) (sub_at ns w (lo + 2 * k₂) k₁) left) r t l) where
   -- A refusal of the sweep is handed on.
-  pub composed_fails : {u : Refusal} {t l : ℕ} → r ≡ Refused u t l → GivesSub (4 * top + 8 * left + 2 * k₂ + 2 * k₁) ns w w₁ top left (lo + 2 * k₂ + 2 * k₁)
+  pub composed_fails : {u : Refusal} → r ≡ Err u → GivesSub (4 * top + 8 * left + 2 * k₂ + 2 * k₁) ns w w₁ top left (lo + 2 * k₂ + 2 * k₁)
       (compose (sub_at ns w lo k₂) (sub_at ns w (lo + 2 * k₂) k₁) left) (Refused u t l)
   unfolding compose after
   composed_fails k =
@@ -264,10 +265,10 @@ module _ {ns w w₁ : List ℕ} {top left lo k₂ k₁ : ℕ} {r : Applied}
       record { stands = S.stands; mid = λ q a b. S.mid q a (omega arith); answer = record { is = rw Z.is; types = Z.types; more = Z.more; down = Z.down } }
 
   -- Both regions became one.
-  pub composed : {w₂ : List ℕ} {n t l c : ℕ} → r ≡ Done n t l → Merged ns w₁ w₂ lo k₂ k₁ c → GivesSub (4 * top + 8 * left + 2 * k₂ + 2 * k₁) ns w w₂ top left (lo + 2 * k₂ + 2 * k₁)
+  pub composed : {w₂ : List ℕ} {c : ℕ} {v : Unit {0}} → r ≡ Ok v → Merged ns w₁ w₂ lo k₂ k₁ c → GivesSub (4 * top + 8 * left + 2 * k₂ + 2 * k₁) ns w w₂ top left (lo + 2 * k₂ + 2 * k₁)
       (compose (sub_at ns w lo k₂) (sub_at ns w (lo + 2 * k₂) k₁) left) (Done c t l)
   unfolding compose after
-  composed {w₂} {n} {t} {l} {c} k M =
+  composed {w₂} {c} k M =
       let A = rw k at S.answer in
       let R = M.is t l A.both in
       let room = A.both.room in

@@ -8,8 +8,8 @@ use Rattle.names.specs.Names.{Names}
 use Rattle.ast.specs.Table.{Table, Node}
 use Rattle.errors.specs.Refusals.{Refuses}
 use Rattle.pairs.specs.Pairs.{sub_at, Sub, Stands}
-use Rattle.apply.specs.declared.Applied.{Applied}
-use Rattle.apply.specs.declared.Applied.TheVariants.{Done, Refused}
+use Rattle.apply.specs.Applied.{Applied}
+use Rattle.apply.specs.Applied.{Done, Refused}
 
 -- The k pairs that end at hi, in order. At least slack steps were spent. Of the table's words, 8 for each step left and x
 -- more, there are used the table's, the region's and 8 for each step left; of each of the slack steps 6 are not used.

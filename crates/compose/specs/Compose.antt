@@ -1,21 +1,19 @@
 -- Two substitutions side by side on the stack become one: `compose` and `merge` of 002, in place.
-use Rattle.std.specs.Prelude.{◌≡◌, ℕ, ◌+◌, ◌*◌, ◌-◌, ◌<◌, ◌≤◌, get_or}
+use Rattle.std.specs.Prelude.{◌≡◌, ℕ, ◌+◌, ◌*◌, ◌-◌, ◌<◌, ◌≤◌, get_or, Result, Ok, Err}
 use mathlib.Core.List.{List, ◌∷◌, ◌++◌, foldr}
 use Rattle.std.proofs.Math.Option.{Option, none, some}
 use Rattle.meaning.specs.Ast.{TyVar, Ty}
-use Rattle.meaning.specs.Budget.{Out, done, refused}
+use Rattle.meaning.specs.Budget.{Out, done}
 use Rattle.meaning.specs.Map.{tyvars, get, insert}
-use Rattle.meaning.specs.Errors.{unification_failure}
 use Rattle.meaning.specs.Subst.{Subst, agree}
 use Rattle.theorems.proofs.Ordered.{Sorted}
 use Rattle.names.specs.Names.{Names, tyvar_of}
 use Rattle.ast.specs.Table.{tree, Table, Node}
 use Rattle.errors.specs.Refusals.{Refuses}
+use Rattle.errors.specs.declared.Refusal.{Refusal}
 use Rattle.pairs.specs.Pairs.{sub_at, Sub, Stands}
-use Rattle.compose.specs.declared.Agreed.{Agreed}
-use Rattle.compose.specs.declared.Agreed.TheVariants.{All, Clash}
-use Rattle.apply.specs.declared.Applied.{Applied}
-use Rattle.apply.specs.declared.Applied.TheVariants.{Done, Refused}
+use Rattle.apply.specs.Applied.{Applied}
+use Rattle.apply.specs.Applied.{Done, Refused}
 
 -- One pair more, unless its variable is there (`entry(..).or_insert`).
 unfoldable pub new_at : Option Ty → TyVar × Ty → Subst → Subst
@@ -82,12 +80,11 @@ pub record Regions (ns w : List ℕ) (top lo k₂ k₁ : ℕ) : Type 0 where
   pub other : Sub w top (lo + 2 * k₂) k₁
 
 -- What the comparison of the later region with the first one says: `agree` of the meaning, whatever the steps.
-abbrev pub AgreesAs : List ℕ → List ℕ → ℕ → ℕ → ℕ → ℕ → Agreed → Type 0
-AgreesAs ns w top lo k₂ k₁ All = (left : ℕ) → agree (sub_at ns w (lo + 2 * k₂) k₁) (sub_at ns w lo k₂) left ≡ done tt left
-AgreesAs ns w top lo k₂ k₁ (Clash v u) = Node w top v × Node w top u
-    × ((left : ℕ) → agree (sub_at ns w (lo + 2 * k₂) k₁) (sub_at ns w lo k₂) left ≡ refused (unification_failure (tree ns w v) (tree ns w u)) left)
+abbrev pub AgreesAs : List ℕ → List ℕ → ℕ → ℕ → ℕ → ℕ → Result (Unit {0}) Refusal → Type 0
+AgreesAs ns w top lo k₂ k₁ (Ok u) = (left : ℕ) → agree (sub_at ns w (lo + 2 * k₂) k₁) (sub_at ns w lo k₂) left ≡ done tt left
+AgreesAs ns w top lo k₂ k₁ (Err e) = (left : ℕ) → Refuses ns w top left (agree (sub_at ns w (lo + 2 * k₂) k₁) (sub_at ns w lo k₂) left) e top left
 
-pub record Agrees (ns w : List ℕ) (top lo k₂ k₁ : ℕ) (r : Agreed) : Type 0 where
+pub record Agrees (ns w : List ℕ) (top lo k₂ k₁ : ℕ) (r : Result (Unit {0}) Refusal) : Type 0 where
   pub says : AgreesAs ns w top lo k₂ k₁ r
 
 -- Both regions became one of r pairs, which ends where they ended.
@@ -131,11 +128,11 @@ pub record SweptOn (ns w w' : List ℕ) (top left lo k₂ k₁ top' left' : ℕ)
   pub same : sub_at ns w' lo k₂ ≡ sub_at ns w lo k₂
   pub is : o ≡ done (sub_at ns w' (lo + 2 * k₂) k₁) left'
 
-abbrev pub SweptAs : List ℕ → List ℕ → List ℕ → ℕ → ℕ → ℕ → ℕ → ℕ → Out Subst → Applied → Type 0
-SweptAs ns w w' top left lo k₂ k₁ o (Done k top' left') = SweptOn ns w w' top left lo k₂ k₁ top' left' o
-SweptAs ns w w' top left lo k₂ k₁ o (Refused e top' left') = Refuses ns w' top left o e top' left'
+abbrev pub SweptAs : List ℕ → List ℕ → List ℕ → ℕ → ℕ → ℕ → ℕ → ℕ → Out Subst → Result (Unit {0}) Refusal → ℕ → ℕ → Type 0
+SweptAs ns w w' top left lo k₂ k₁ o (Ok u) top' left' = SweptOn ns w w' top left lo k₂ k₁ top' left' o
+SweptAs ns w w' top left lo k₂ k₁ o (Err e) top' left' = Refuses ns w' top left o e top' left'
 
-pub record Swept (ns w w' : List ℕ) (top left lo k₂ k₁ : ℕ) (o : Out Subst) (r : Applied) : Type 0 where
+pub record Swept (ns w w' : List ℕ) (top left lo k₂ k₁ : ℕ) (o : Out Subst) (r : Result (Unit {0}) Refusal) (top' left' : ℕ) : Type 0 where
   pub stands : Stands w w' top (lo + 2 * k₂ + 2 * k₁)
   pub mid : (q : ℕ) → 4 * top + 8 * left ≤ q → q < lo → get_or w' q 0 ≡ get_or w q 0
-  pub answer : SweptAs ns w w' top left lo k₂ k₁ o r
+  pub answer : SweptAs ns w w' top left lo k₂ k₁ o r top' left'

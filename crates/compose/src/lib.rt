@@ -6,227 +6,182 @@ ghost use Rattle.meaning.specs.Subst.{apply_values, compose, merge};
 ghost use Rattle.names.specs.Names.{Names};
 ghost use Rattle.pairs.specs.Pairs.{sub_at};
 ghost use Rattle.compose.specs.Compose.{Place, Shifted, Opened, Added, Both, Merged, Swept, GivesSub, Regions, Agrees};
+ghost use Rattle.apply.specs.Applied.{applied_of};
 
-use apply::Applied;
+use ast::{Base, Room};
 use errors::Refusal;
-use pairs::Found;
+use pairs::Subst;
 
-// How many of the k pairs from at come before a new pair of the variable x.
-fn place(base: &[u64], work: &[u64], names: &[u64], at: usize, k: usize, x: usize) -> usize
-    requires names { Names names.now }
-    requires k_in_bounds { at + 2 * k ≤ length (base.now ++ work.now) }
-    ensures { Place names.now (base.now ++ work.now) at k x result }
+// Two substitutions side by side on the stack: k2 pairs from word lo, and k1 pairs after them.
+#[derive(Clone, Copy)]
+pub struct Beside {
+    pub lo: usize,
+    pub k2: usize,
+    pub k1: usize,
+}
+
+// The k pairs that end at word hi.
+#[derive(Clone, Copy)]
+pub struct Ending {
+    pub hi: usize,
+    pub k: usize,
+}
+
+// How many of the pairs come before a new pair of the variable x.
+fn place(base: Base, work: &[u64], sub: Subst, x: usize) -> usize
+    requires names { Names base.names.now }
+    requires k_in_bounds { sub.at + 2 * sub.k ≤ length (base.words.now ++ work.now) }
+    ensures { Place base.entry.names.now (base.entry.words.now ++ work.now) sub.at sub.k x result }
 {
-    let mut j: usize = 0;
-    while j < k {
-        let y = ast::index(base, work, at + 2 * j);
-        if names::before(names, x, y) {
+    for j in 0..sub.k {
+        let y = ast::index(base, work, sub.at + 2 * j);
+        if names::before(base.names, x, y) {
             return j;
         }
-        j += 1;
     }
-    j
+    sub.k
 }
 
 // Moves the words from to + 2 up to end down by two.
-fn shift(base: &[u64], work: &mut [u64], to: usize, end: usize)
-    requires base_len_bound { length base.now ≤ to }
+fn shift(base: Base, work: &mut [u64], to: usize, end: usize)
+    requires base_len_bound { length base.words.now ≤ to }
     requires to_bound { to + 2 ≤ end }
-    requires end_in_bounds { end ≤ length (base.now ++ work.old) }
-    ensures { Shifted (base.now ++ work.old) (base.now ++ work.new) to end }
+    requires end_in_bounds { end ≤ length (base.words.now ++ work.old) }
+    ensures { Shifted (base.entry.words.now ++ work.old) (base.entry.words.now ++ work.new) to end }
 {
-    let mut i = to;
-    while i + 2 < end {
+    for i in to..end - 2 {
         let v = ast::index(base, work, i + 2);
         pairs::put(base, work, i, v);
-        i += 1;
     }
 }
 
 // Writes the pair x, t at its place among the k pairs from to + 2, of which those before it move down.
-fn insert(base: &[u64], work: &mut [u64], names: &[u64], to: usize, k: usize, x: usize, t: usize)
-    requires names { Names names.now }
-    requires base_len_bound { length base.now ≤ to }
-    requires k_in_bounds { to + 2 + 2 * k ≤ length (base.now ++ work.old) }
-    ensures { Opened names.now (base.now ++ work.old) (base.now ++ work.new) to k x t }
+fn insert(base: Base, work: &mut [u64], to: usize, k: usize, x: usize, t: usize)
+    requires names { Names base.names.now }
+    requires base_len_bound { length base.words.now ≤ to }
+    requires k_in_bounds { to + 2 + 2 * k ≤ length (base.words.now ++ work.old) }
+    ensures { Opened base.entry.names.now (base.entry.words.now ++ work.old) (base.entry.words.now ++ work.new) to k x t }
 {
-    let j = place(base, work, names, to + 2, k, x);
+    let j = place(base, work, Subst { at: to + 2, k }, x);
     let i = to + 2 * j;
     shift(base, work, to, i + 2);
     pairs::put(base, work, i, x);
     pairs::put(base, work, i + 1, t);
 }
 
-// Adds the pair x, t to the c pairs that end at hi, if they have not the variable x; how many there are then.
-fn add(
-    base: &[u64],
-    work: &mut [u64],
-    names: &[u64],
-    hi: usize,
-    c: usize,
-    x: usize,
-    t: usize,
-) -> usize
-    requires names { Names names.now }
-    requires c_len_bound { length base.now + 2 * c + 2 ≤ hi }
-    requires hi_in_bounds { hi ≤ length (base.now ++ work.old) }
-    ensures { Added names.now (base.now ++ work.old) (base.now ++ work.new) hi c x t result }
+// Adds the pair x, t to the pairs, if they have not the variable x; how many there are then.
+fn add(base: Base, work: &mut [u64], end: Ending, x: usize, t: usize) -> usize
+    requires names { Names base.names.now }
+    requires c_len_bound { length base.words.now + 2 * end.k + 2 ≤ end.hi }
+    requires hi_in_bounds { end.hi ≤ length (base.words.now ++ work.old) }
+    ensures { Added base.entry.names.now (base.entry.words.now ++ work.old) (base.entry.words.now ++ work.new) end.hi end.k x t result }
 {
-    let at = hi - 2 * c;
-    let f = pairs::find(base, work, at, c, x);
+    let at = end.hi - 2 * end.k;
+    let f = pairs::find(base, work, Subst { at, k: end.k }, x);
     match f {
-        Found::At(_) => c,
-        Found::Nothing => {
-            insert(base, work, names, at - 2, c, x, t);
-            c + 1
+        Some(_) => end.k,
+        None => {
+            insert(base, work, at - 2, end.k, x, t);
+            end.k + 1
         }
     }
 }
 
-// Adds the k2 pairs from lo to the k1 pairs after them; how many there are then, up to where those ended.
-fn merge_in(base: &[u64], work: &mut [u64], names: &[u64], lo: usize, k2: usize, k1: usize) -> usize
-    requires names { Names names.now }
-    requires base_len_bound { length base.now ≤ lo }
-    requires k1_in_bounds { lo + 2 * k2 + 2 * k1 ≤ length (base.now ++ work.old) }
-    ensures { Merged names.now (base.now ++ work.old) (base.now ++ work.new) lo k2 k1 result }
+// Adds the first pairs to those after them; how many there are then, up to where those ended.
+fn merge_in(base: Base, work: &mut [u64], sides: Beside) -> usize
+    requires names { Names base.names.now }
+    requires base_len_bound { length base.words.now ≤ sides.lo }
+    requires k1_in_bounds { sides.lo + 2 * sides.k2 + 2 * sides.k1 ≤ length (base.words.now ++ work.old) }
+    ensures { Merged base.entry.names.now (base.entry.words.now ++ work.old) (base.entry.words.now ++ work.new) sides.lo sides.k2 sides.k1 result }
 {
-    let hi = lo + 2 * k2 + 2 * k1;
-    let mut j = k2;
-    let mut c = k1;
-    while j > 0 {
-        j -= 1;
-        let i = lo + 2 * j;
+    let hi = sides.lo + 2 * sides.k2 + 2 * sides.k1;
+    let mut c = sides.k1;
+    for j in (0..sides.k2).rev() {
+        let i = sides.lo + 2 * j;
         let x = ast::index(base, work, i);
         let t = ast::index(base, work, i + 1);
-        c = add(base, work, names, hi, c, x, t);
+        c = add(base, work, Ending { hi, k: c }, x, t);
     }
     c
 }
 
-// Applies the k2 pairs from lo to the types of the k1 pairs after them.
-fn sweep(
-    base: &[u64],
-    work: &mut [u64],
-    names: &[u64],
-    top: usize,
-    left: usize,
-    lo: usize,
-    k2: usize,
-    k1: usize,
-) -> Applied
-    requires base_len_bound { length base.now ≤ 4 * top }
-    requires both { Both names.now (base.now ++ work.old) top left lo k2 k1 }
-    ensures { Swept names.now (base.now ++ work.old) (base.now ++ work.new) top left lo k2 k1
-        (apply_values (sub_at names.now (base.now ++ work.old) lo k2) (sub_at names.now (base.now ++ work.old) (lo + 2 * k2) k1) left) result }
+// Applies the first pairs to the types of those after them.
+fn sweep(base: Base, work: &mut [u64], room: &mut Room, sides: Beside) -> Result<(), Refusal>
+    requires base_len_bound { length base.words.now ≤ 4 * room.old.top }
+    requires both { Both base.names.now (base.words.now ++ work.old) room.old.top room.old.left sides.lo sides.k2 sides.k1 }
+    ensures { Swept base.entry.names.now (base.entry.words.now ++ work.old) (base.entry.words.now ++ work.new) room.old.top room.old.left sides.lo sides.k2 sides.k1
+        (apply_values (sub_at base.entry.names.now (base.entry.words.now ++ work.old) sides.lo sides.k2) (sub_at base.entry.names.now (base.entry.words.now ++ work.old) (sides.lo + 2 * sides.k2) sides.k1) room.old.left) result room.new.top room.new.left }
 {
-    let at = lo + 2 * k2;
-    let mut t = top;
-    let mut l = left;
-    let mut i: usize = 0;
-    while i < k1 {
+    let sub = Subst {
+        at: sides.lo,
+        k: sides.k2,
+    };
+    let at = sides.lo + 2 * sides.k2;
+    for i in 0..sides.k1 {
         let p = at + 2 * i + 1;
         let n = ast::index(base, work, p);
-        let r = apply::apply(base, work, names, t, l, 256, lo, k2, n);
-        match r {
-            Applied::Done(m, t2, l2) => {
-                pairs::put(base, work, p, m);
-                t = t2;
-                l = l2;
-            }
-            Applied::Refused(e, t2, l2) => return Applied::Refused(e, t2, l2),
-        }
-        i += 1;
+        let m = apply::apply(base, work, room, errors::DEPTH, sub, n)?;
+        pairs::put(base, work, p, m);
     }
-    Applied::Done(k1, t, l)
+    Ok(())
 }
 
-// `self.compose(other)`: the k2 pairs from lo after the k1 pairs that follow them, in their place.
+// `self.compose(other)`: self is the first pairs, other those after them; in their place.
 pub fn compose_in(
-    base: &[u64],
+    base: Base,
     work: &mut [u64],
-    names: &[u64],
-    top: usize,
-    left: usize,
-    lo: usize,
-    k2: usize,
-    k1: usize,
-) -> Applied
-    requires base_len_bound { length base.now ≤ 4 * top }
-    requires both { Both names.now (base.now ++ work.old) top left lo k2 k1 }
-    ensures { GivesSub (4 * top + 8 * left + 2 * k2 + 2 * k1) names.now (base.now ++ work.old) (base.now ++ work.new) top left (lo + 2 * k2 + 2 * k1)
-        (compose (sub_at names.now (base.now ++ work.old) lo k2) (sub_at names.now (base.now ++ work.old) (lo + 2 * k2) k1) left) result }
+    room: &mut Room,
+    sides: Beside,
+) -> Result<usize, Refusal>
+    requires base_len_bound { length base.words.now ≤ 4 * room.old.top }
+    requires both { Both base.names.now (base.words.now ++ work.old) room.old.top room.old.left sides.lo sides.k2 sides.k1 }
+    ensures { GivesSub (4 * room.old.top + 8 * room.old.left + 2 * sides.k2 + 2 * sides.k1) base.entry.names.now (base.entry.words.now ++ work.old) (base.entry.words.now ++ work.new) room.old.top room.old.left (sides.lo + 2 * sides.k2 + 2 * sides.k1)
+        (compose (sub_at base.entry.names.now (base.entry.words.now ++ work.old) sides.lo sides.k2) (sub_at base.entry.names.now (base.entry.words.now ++ work.old) (sides.lo + 2 * sides.k2) sides.k1) room.old.left) (applied_of result room.new.top room.new.left) }
 {
-    let s = sweep(base, work, names, top, left, lo, k2, k1);
-    match s {
-        Applied::Done(_, t, l) => {
-            let c = merge_in(base, work, names, lo, k2, k1);
-            Applied::Done(c, t, l)
-        }
-        Applied::Refused(e, t, l) => Applied::Refused(e, t, l),
-    }
+    sweep(base, work, room, sides)?;
+    Ok(merge_in(base, work, sides))
 }
 
-// Whether two substitutions agree, or two types of one variable that differ.
-#[derive(Clone, Copy)]
-pub enum Agreed {
-    All,
-    Clash(usize, usize),
-}
-
-// The k1 pairs that stand after the k2 pairs from lo, against these, in their order.
-fn agree(
-    base: &[u64],
-    work: &[u64],
-    names: &[u64],
-    top: usize,
-    lo: usize,
-    k2: usize,
-    k1: usize,
-) -> Agreed
-    requires { Regions names.now (base.now ++ work.now) top lo k2 k1 }
-    ensures { Agrees names.now (base.now ++ work.now) top lo k2 k1 result }
+// The pairs after the first ones against these, in their order: whether they agree, or two types of one variable that
+// differ.
+fn agree(base: Base, work: &[u64], top: usize, sides: Beside) -> Result<(), Refusal>
+    requires { Regions base.names.now (base.words.now ++ work.now) top sides.lo sides.k2 sides.k1 }
+    ensures { Agrees base.entry.names.now (base.entry.words.now ++ work.now) top sides.lo sides.k2 sides.k1 result }
 {
-    let at = lo + 2 * k2;
-    let mut i: usize = 0;
-    while i < k1 {
+    let at = sides.lo + 2 * sides.k2;
+    for i in 0..sides.k1 {
         let x = ast::index(base, work, at + 2 * i);
         let v = ast::index(base, work, at + 2 * i + 1);
-        let f = pairs::find(base, work, lo, k2, x);
-        match f {
-            Found::At(u) => {
-                if !ast::same(base, work, names, top, v, u) {
-                    return Agreed::Clash(v, u);
-                }
+        let f = pairs::find(
+            base,
+            work,
+            Subst {
+                at: sides.lo,
+                k: sides.k2,
+            },
+            x,
+        );
+        if let Some(u) = f {
+            if !ast::same(base, work, top, v, u) {
+                return Err(Refusal::UnificationFailure(v, u));
             }
-            Found::Nothing => {}
         }
-        i += 1;
     }
-    Agreed::All
+    Ok(())
 }
 
-// `self.merge(other)`: self is the k1 pairs that stand after the k2 pairs from lo, which are other; in their place.
+// `self.merge(other)`: other is the first pairs, self those after them; in their place.
 pub fn merge_pairs(
-    base: &[u64],
+    base: Base,
     work: &mut [u64],
-    names: &[u64],
-    top: usize,
-    left: usize,
-    lo: usize,
-    k2: usize,
-    k1: usize,
-) -> Applied
-    requires base_len_bound { length base.now ≤ 4 * top }
-    requires both { Both names.now (base.now ++ work.old) top left lo k2 k1 }
-    ensures { GivesSub (4 * top + 8 * left + 2 * k2 + 2 * k1) names.now (base.now ++ work.old) (base.now ++ work.new) top left (lo + 2 * k2 + 2 * k1)
-        (merge (sub_at names.now (base.now ++ work.old) (lo + 2 * k2) k1) (sub_at names.now (base.now ++ work.old) lo k2) left) result }
+    room: &mut Room,
+    sides: Beside,
+) -> Result<usize, Refusal>
+    requires base_len_bound { length base.words.now ≤ 4 * room.old.top }
+    requires both { Both base.names.now (base.words.now ++ work.old) room.old.top room.old.left sides.lo sides.k2 sides.k1 }
+    ensures { GivesSub (4 * room.old.top + 8 * room.old.left + 2 * sides.k2 + 2 * sides.k1) base.entry.names.now (base.entry.words.now ++ work.old) (base.entry.words.now ++ work.new) room.old.top room.old.left (sides.lo + 2 * sides.k2 + 2 * sides.k1)
+        (merge (sub_at base.entry.names.now (base.entry.words.now ++ work.old) (sides.lo + 2 * sides.k2) sides.k1) (sub_at base.entry.names.now (base.entry.words.now ++ work.old) sides.lo sides.k2) room.old.left) (applied_of result room.new.top room.new.left) }
 {
-    let a = agree(base, work, names, top, lo, k2, k1);
-    match a {
-        Agreed::All => {
-            let c = merge_in(base, work, names, lo, k2, k1);
-            Applied::Done(c, top, left)
-        }
-        Agreed::Clash(v, u) => Applied::Refused(Refusal::UnificationFailure(v, u), top, left),
-    }
+    agree(base, work, room.top, sides)?;
+    Ok(merge_in(base, work, sides))
 }

@@ -5,6 +5,7 @@ ghost use Rattle.std.specs.Prelude.{◌≡◌, ◌++◌, ◌+◌, ◌*◌, ◌<�
 ghost use Rattle.names.specs.Names.{first_node};
 ghost use Rattle.cores.specs.Parts.{constant_part, node_part, read_part, is_below, part_of, pushed_four};
 
+use ast::{Base, Room};
 use names::Kind;
 
 // What a core term is: a name of the script; a dictionary's name, `Own` being `self`; a literal; and the terms that are
@@ -67,23 +68,23 @@ fn node_part(tag: u64, a: usize, b: usize, d: usize) -> Part
     ensures { result ≡ node_part tag a b d }
 {
     match tag {
-        4 => Part::Abs(a, b),
-        5 => Part::App(a, b),
-        6 => Part::Let(a, b, d),
-        7 => Part::DictAbs(a, b),
-        8 => Part::DictApp(a, b),
-        9 => Part::Method(a, b),
-        10 => Part::Super(a, b, d),
-        11 => Part::Rec(a, b, d),
-        12 => Part::Int(a),
+        ABS => Part::Abs(a, b),
+        CALL => Part::App(a, b),
+        LET => Part::Let(a, b, d),
+        DICT_ABS => Part::DictAbs(a, b),
+        APP => Part::DictApp(a, b),
+        METHOD => Part::Method(a, b),
+        SUPER => Part::Super(a, b, d),
+        REC => Part::Rec(a, b, d),
+        INT => Part::Int(a),
         _ => Part::Own,
     }
 }
 
 // What node n says.
-fn read_part(base: &[u64], work: &[u64], n: usize) -> Part
-    requires { 4 * n + 4 ≤ length (base.now ++ work.now) }
-    ensures { result ≡ read_part (base.now ++ work.now) n }
+fn read_part(base: Base, work: &[u64], n: usize) -> Part
+    requires { 4 * n + 4 ≤ length (base.words.now ++ work.now) }
+    ensures { result ≡ read_part (base.entry.words.now ++ work.now) n }
 {
     let i = 4 * n;
     let tag = ast::get(base, work, i);
@@ -98,12 +99,12 @@ fn is_below(t: usize, p: Part) -> bool
     ensures { result ≡ is_below t p }
 {
     match p {
-        Part::Var(_) => true,
-        Part::Dict(_) => true,
-        Part::Context(_, _) => true,
-        Part::Own => true,
-        Part::Bool(_) => true,
-        Part::Int(_) => true,
+        Part::Var(_)
+        | Part::Dict(_)
+        | Part::Context(_, _)
+        | Part::Own
+        | Part::Bool(_)
+        | Part::Int(_) => true,
         Part::Abs(_, e) => e < t,
         Part::App(f, e) => f < t && e < t,
         Part::Let(_, e, f) => e < t && f < t,
@@ -116,9 +117,9 @@ fn is_below(t: usize, p: Part) -> bool
 }
 
 // What the core term t says.
-pub fn part_at(base: &[u64], work: &[u64], t: usize) -> Part
-    requires { 4 * t + 4 ≤ 4 * first_node + length (base.now ++ work.now) }
-    ensures { result ≡ part_of (base.now ++ work.now) t }
+pub fn part_at(base: Base, work: &[u64], t: usize) -> Part
+    requires { 4 * t + 4 ≤ 4 * first_node + length (base.words.now ++ work.now) }
+    ensures { result ≡ part_of (base.entry.words.now ++ work.now) t }
 {
     let k = names::kind_of(t);
     match k {
@@ -135,93 +136,152 @@ pub fn part_at(base: &[u64], work: &[u64], t: usize) -> Part
     }
 }
 
-// Writes the node top: a tag and three fields.
-fn push_four(base: &[u64], work: &mut [u64], top: usize, tag: u64, a: usize, b: usize, d: usize)
-    requires base_len_bound { length base.now ≤ 4 * top }
-    requires top_in_bounds { 4 * top + 4 ≤ length (base.now ++ work.old) }
-    ensures { base.now ++ work.new ≡ pushed_four (base.now ++ work.old) top tag a b d }
+// Writes the next node, a tag and three fields, and answers its word.
+fn push_four(
+    base: Base,
+    work: &mut [u64],
+    room: &mut Room,
+    tag: u64,
+    a: usize,
+    b: usize,
+    d: usize,
+) -> usize
+    requires base_len_bound { length base.words.now ≤ 4 * room.old.top }
+    requires top_in_bounds { 4 * room.old.top + 4 ≤ length (base.words.now ++ work.old) }
+    ensures is { base.entry.words.now ++ work.new ≡ pushed_four (base.entry.words.now ++ work.old) room.old.top tag a b d }
+    ensures word { result ≡ first_node + room.old.top }
+    ensures top { room.new.top ≡ room.old.top + 1 }
+    ensures left { room.new.left ≡ room.old.left }
 {
-    pairs::put(base, work, 4 * top + 3, d);
-    ast::push(base, work, top, tag, a, b);
+    pairs::put(base, work, 4 * room.top + 3, d);
+    ast::add(base, work, room, tag, a, b)
 }
 
-// Writes the node top: the number v.
-pub fn push_int(base: &[u64], work: &mut [u64], top: usize, v: usize)
-    requires base_len_bound { length base.now ≤ 4 * top }
-    requires top_in_bounds { 4 * top + 4 ≤ length (base.now ++ work.old) }
-    ensures { base.now ++ work.new ≡ pushed_four (base.now ++ work.old) top 12 v 0 0 }
+// Writes the next node: the number v.
+pub fn push_int(base: Base, work: &mut [u64], room: &mut Room, v: usize) -> usize
+    requires base_len_bound { length base.words.now ≤ 4 * room.old.top }
+    requires top_in_bounds { 4 * room.old.top + 4 ≤ length (base.words.now ++ work.old) }
+    ensures is { base.entry.words.now ++ work.new ≡ pushed_four (base.entry.words.now ++ work.old) room.old.top 12 v 0 0 }
+    ensures word { result ≡ first_node + room.old.top }
+    ensures top { room.new.top ≡ room.old.top + 1 }
+    ensures left { room.new.left ≡ room.old.left }
 {
-    push_four(base, work, top, INT, v, 0, 0);
+    push_four(base, work, room, INT, v, 0, 0)
 }
 
-// Writes the node top: the dictionary of the superclass s in the dictionary e of the class c.
-pub fn push_proj(base: &[u64], work: &mut [u64], top: usize, e: usize, c: usize, s: usize)
-    requires base_len_bound { length base.now ≤ 4 * top }
-    requires top_in_bounds { 4 * top + 4 ≤ length (base.now ++ work.old) }
-    ensures { base.now ++ work.new ≡ pushed_four (base.now ++ work.old) top 10 e c s }
+// Writes the next node: the dictionary of the superclass s in the dictionary e of the class c.
+pub fn push_proj(
+    base: Base,
+    work: &mut [u64],
+    room: &mut Room,
+    e: usize,
+    c: usize,
+    s: usize,
+) -> usize
+    requires base_len_bound { length base.words.now ≤ 4 * room.old.top }
+    requires top_in_bounds { 4 * room.old.top + 4 ≤ length (base.words.now ++ work.old) }
+    ensures is { base.entry.words.now ++ work.new ≡ pushed_four (base.entry.words.now ++ work.old) room.old.top 10 e c s }
+    ensures word { result ≡ first_node + room.old.top }
+    ensures top { room.new.top ≡ room.old.top + 1 }
+    ensures left { room.new.left ≡ room.old.left }
 {
-    push_four(base, work, top, SUPER, e, c, s);
+    push_four(base, work, room, SUPER, e, c, s)
 }
 
-// Writes the node top: the record of instance i, of the class c at the type t.
-pub fn push_rec(base: &[u64], work: &mut [u64], top: usize, c: usize, t: usize, i: usize)
-    requires base_len_bound { length base.now ≤ 4 * top }
-    requires top_in_bounds { 4 * top + 4 ≤ length (base.now ++ work.old) }
-    ensures { base.now ++ work.new ≡ pushed_four (base.now ++ work.old) top 11 c t i }
+// Writes the next node: the record of instance i, of the class c at the type t.
+pub fn push_rec(
+    base: Base,
+    work: &mut [u64],
+    room: &mut Room,
+    c: usize,
+    t: usize,
+    i: usize,
+) -> usize
+    requires base_len_bound { length base.words.now ≤ 4 * room.old.top }
+    requires top_in_bounds { 4 * room.old.top + 4 ≤ length (base.words.now ++ work.old) }
+    ensures is { base.entry.words.now ++ work.new ≡ pushed_four (base.entry.words.now ++ work.old) room.old.top 11 c t i }
+    ensures word { result ≡ first_node + room.old.top }
+    ensures top { room.new.top ≡ room.old.top + 1 }
+    ensures left { room.new.left ≡ room.old.left }
 {
-    push_four(base, work, top, REC, c, t, i);
+    push_four(base, work, room, REC, c, t, i)
 }
 
-// Writes the node top: the dictionary f applied to the dictionaries of the list l.
-pub fn push_app(base: &[u64], work: &mut [u64], top: usize, f: usize, l: usize)
-    requires base_len_bound { length base.now ≤ 4 * top }
-    requires top_in_bounds { 4 * top + 4 ≤ length (base.now ++ work.old) }
-    ensures { base.now ++ work.new ≡ pushed_four (base.now ++ work.old) top 8 f l 0 }
+// Writes the next node: the dictionary f applied to the dictionaries of the list l.
+pub fn push_app(base: Base, work: &mut [u64], room: &mut Room, f: usize, l: usize) -> usize
+    requires base_len_bound { length base.words.now ≤ 4 * room.old.top }
+    requires top_in_bounds { 4 * room.old.top + 4 ≤ length (base.words.now ++ work.old) }
+    ensures is { base.entry.words.now ++ work.new ≡ pushed_four (base.entry.words.now ++ work.old) room.old.top 8 f l 0 }
+    ensures word { result ≡ first_node + room.old.top }
+    ensures top { room.new.top ≡ room.old.top + 1 }
+    ensures left { room.new.left ≡ room.old.left }
 {
-    push_four(base, work, top, APP, f, l, 0);
+    push_four(base, work, room, APP, f, l, 0)
 }
 
-// Writes the node top: the function from the name x to the term e.
-pub fn push_abs(base: &[u64], work: &mut [u64], top: usize, x: usize, e: usize)
-    requires base_len_bound { length base.now ≤ 4 * top }
-    requires top_in_bounds { 4 * top + 4 ≤ length (base.now ++ work.old) }
-    ensures { base.now ++ work.new ≡ pushed_four (base.now ++ work.old) top 4 x e 0 }
+// Writes the next node: the function from the name x to the term e.
+pub fn push_abs(base: Base, work: &mut [u64], room: &mut Room, x: usize, e: usize) -> usize
+    requires base_len_bound { length base.words.now ≤ 4 * room.old.top }
+    requires top_in_bounds { 4 * room.old.top + 4 ≤ length (base.words.now ++ work.old) }
+    ensures is { base.entry.words.now ++ work.new ≡ pushed_four (base.entry.words.now ++ work.old) room.old.top 4 x e 0 }
+    ensures word { result ≡ first_node + room.old.top }
+    ensures top { room.new.top ≡ room.old.top + 1 }
+    ensures left { room.new.left ≡ room.old.left }
 {
-    push_four(base, work, top, ABS, x, e, 0);
+    push_four(base, work, room, ABS, x, e, 0)
 }
 
-// Writes the node top: the term f applied to the term e.
-pub fn push_call(base: &[u64], work: &mut [u64], top: usize, f: usize, e: usize)
-    requires base_len_bound { length base.now ≤ 4 * top }
-    requires top_in_bounds { 4 * top + 4 ≤ length (base.now ++ work.old) }
-    ensures { base.now ++ work.new ≡ pushed_four (base.now ++ work.old) top 5 f e 0 }
+// Writes the next node: the term f applied to the term e.
+pub fn push_call(base: Base, work: &mut [u64], room: &mut Room, f: usize, e: usize) -> usize
+    requires base_len_bound { length base.words.now ≤ 4 * room.old.top }
+    requires top_in_bounds { 4 * room.old.top + 4 ≤ length (base.words.now ++ work.old) }
+    ensures is { base.entry.words.now ++ work.new ≡ pushed_four (base.entry.words.now ++ work.old) room.old.top 5 f e 0 }
+    ensures word { result ≡ first_node + room.old.top }
+    ensures top { room.new.top ≡ room.old.top + 1 }
+    ensures left { room.new.left ≡ room.old.left }
 {
-    push_four(base, work, top, CALL, f, e, 0);
+    push_four(base, work, room, CALL, f, e, 0)
 }
 
-// Writes the node top: the term f, in which the name x stands for the term e.
-pub fn push_let(base: &[u64], work: &mut [u64], top: usize, x: usize, e: usize, f: usize)
-    requires base_len_bound { length base.now ≤ 4 * top }
-    requires top_in_bounds { 4 * top + 4 ≤ length (base.now ++ work.old) }
-    ensures { base.now ++ work.new ≡ pushed_four (base.now ++ work.old) top 6 x e f }
+// Writes the next node: the term f, in which the name x stands for the term e.
+pub fn push_let(
+    base: Base,
+    work: &mut [u64],
+    room: &mut Room,
+    x: usize,
+    e: usize,
+    f: usize,
+) -> usize
+    requires base_len_bound { length base.words.now ≤ 4 * room.old.top }
+    requires top_in_bounds { 4 * room.old.top + 4 ≤ length (base.words.now ++ work.old) }
+    ensures is { base.entry.words.now ++ work.new ≡ pushed_four (base.entry.words.now ++ work.old) room.old.top 6 x e f }
+    ensures word { result ≡ first_node + room.old.top }
+    ensures top { room.new.top ≡ room.old.top + 1 }
+    ensures left { room.new.left ≡ room.old.left }
 {
-    push_four(base, work, top, LET, x, e, f);
+    push_four(base, work, room, LET, x, e, f)
 }
 
-// Writes the node top: the term e under the binders of the list l.
-pub fn push_dict_abs(base: &[u64], work: &mut [u64], top: usize, l: usize, e: usize)
-    requires base_len_bound { length base.now ≤ 4 * top }
-    requires top_in_bounds { 4 * top + 4 ≤ length (base.now ++ work.old) }
-    ensures { base.now ++ work.new ≡ pushed_four (base.now ++ work.old) top 7 l e 0 }
+// Writes the next node: the term e under the binders of the list l.
+pub fn push_dict_abs(base: Base, work: &mut [u64], room: &mut Room, l: usize, e: usize) -> usize
+    requires base_len_bound { length base.words.now ≤ 4 * room.old.top }
+    requires top_in_bounds { 4 * room.old.top + 4 ≤ length (base.words.now ++ work.old) }
+    ensures is { base.entry.words.now ++ work.new ≡ pushed_four (base.entry.words.now ++ work.old) room.old.top 7 l e 0 }
+    ensures word { result ≡ first_node + room.old.top }
+    ensures top { room.new.top ≡ room.old.top + 1 }
+    ensures left { room.new.left ≡ room.old.left }
 {
-    push_four(base, work, top, DICT_ABS, l, e, 0);
+    push_four(base, work, room, DICT_ABS, l, e, 0)
 }
 
-// Writes the node top: the method m of the dictionary e.
-pub fn push_method(base: &[u64], work: &mut [u64], top: usize, e: usize, m: usize)
-    requires base_len_bound { length base.now ≤ 4 * top }
-    requires top_in_bounds { 4 * top + 4 ≤ length (base.now ++ work.old) }
-    ensures { base.now ++ work.new ≡ pushed_four (base.now ++ work.old) top 9 e m 0 }
+// Writes the next node: the method m of the dictionary e.
+pub fn push_method(base: Base, work: &mut [u64], room: &mut Room, e: usize, m: usize) -> usize
+    requires base_len_bound { length base.words.now ≤ 4 * room.old.top }
+    requires top_in_bounds { 4 * room.old.top + 4 ≤ length (base.words.now ++ work.old) }
+    ensures is { base.entry.words.now ++ work.new ≡ pushed_four (base.entry.words.now ++ work.old) room.old.top 9 e m 0 }
+    ensures word { result ≡ first_node + room.old.top }
+    ensures top { room.new.top ≡ room.old.top + 1 }
+    ensures left { room.new.left ≡ room.old.left }
 {
-    push_four(base, work, top, METHOD, e, m, 0);
+    push_four(base, work, room, METHOD, e, m, 0)
 }

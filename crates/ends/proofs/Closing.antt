@@ -16,14 +16,14 @@ use Rattle.errors.specs.declared.Refusal.{Refusal}
 use Rattle.errors.specs.declared.Refusal.TheVariants.{Steps}
 use Rattle.pairs.specs.Pairs.{sub_at}
 use Rattle.pairs.proofs.Frames.{stands_then, stands_up, sub-later, sub_stands}
-use Rattle.apply.specs.declared.Applied.{Applied}
-use Rattle.apply.specs.declared.Applied.TheVariants.{Done as A-Done, Refused as A-Refused}
+use Rattle.apply.specs.Applied.{Applied}
+use Rattle.apply.specs.Applied.{Done as A-Done, Refused as A-Refused}
 use Rattle.apply.proofs.Hand.{Then, then_done, refuse_on}
 use Rattle.compose.specs.Answers.{GivesU}
 use Rattle.compose.proofs.Hand.{after-after, got, lost}
 use Rattle.ends.specs.Ends.{met, gathered, closed, joined, ReadyMeet, Seen, ReadyGather, ReadyApp, AnswerJoin, GivesJoin}
-use Rattle.ends.specs.declared.Joined.{Joined}
-use Rattle.ends.specs.declared.Joined.TheVariants.{Done, Refused}
+use Rattle.ends.specs.Joined.{Joined}
+use Rattle.ends.specs.Joined.{Done, Refused}
 
 -- A variable takes a step.
 variable_is : (s : Subst) (x : TyVar) (l : ℕ) → (l ≡ 0 → ⊥) → apply_in 256 s (var x) l ≡ done (look s x) (l - 1)

@@ -15,8 +15,8 @@ use Rattle.errors.specs.declared.Refusal.{Refusal}
 use Rattle.pairs.specs.Pairs.{sub_at}
 use Rattle.pairs.proofs.Frames.{stands_then, stands_up, pushed_stands}
 use Rattle.apply.specs.Region.{Ready, Gives}
-use Rattle.apply.specs.declared.Applied.{Applied}
-use Rattle.apply.specs.declared.Applied.TheVariants.{Done as A-Done, Refused as A-Refused}
+use Rattle.apply.specs.Applied.{Applied}
+use Rattle.apply.specs.Applied.{Done as A-Done, Refused as A-Refused}
 use Rattle.apply.proofs.Hand.{Then, then_done, refuse_on, gave, failed}
 use Rattle.apply.proofs.Ways.{Room}
 use Rattle.unify.proofs.Outcomes.{apply_spends}
@@ -25,7 +25,7 @@ use Rattle.cores.specs.Terms.{core}
 use Rattle.cores.proofs.TermLaws.{kept_core}
 use Rattle.cores.proofs.NewTerm.{four_stands, push_function}
 use Rattle.ends.specs.Ends.{abs_ended, ReadyAbs, GivesAbs}
-use Rattle.ends.specs.declared.Ended.TheVariants.{Done, Refused}
+use Rattle.ends.specs.Ended.{Done, Refused}
 
 -- The variable first, then the arrow and the term.
 abs_way : (s : Subst) (a : TyVar) (t : Ty) (x : Name) (e : Core) (n : ℕ) → Then (abs_ended s a t x e n) (apply_in 256 s (var a) n) (λ u m. done (arrow u t, cabs x e) m)

@@ -13,8 +13,8 @@ use Rattle.ast.proofs.Laws.{kept_table, kept_then}
 use Rattle.errors.specs.declared.Refusal.{Refusal}
 use Rattle.pairs.specs.Pairs.{sub_at, Stands}
 use Rattle.pairs.proofs.Frames.{stands_then, stands_up, sub-later, sub_stands}
-use Rattle.apply.specs.declared.Applied.{Applied}
-use Rattle.apply.specs.declared.Applied.TheVariants.{Done, Refused}
+use Rattle.apply.specs.Applied.{Applied}
+use Rattle.apply.specs.Applied.{Done, Refused}
 use Rattle.compose.specs.Compose.{Both, GrownSub, GivesSub}
 use Rattle.compose.specs.Answers.{GivesU, ReadyJoin}
 use Rattle.compose.proofs.Pieces.{sub_copy}

@@ -3,3 +3,4 @@ pub mod Meeting
 pub mod Raising
 pub mod Gathering
 pub mod Closing
+pub mod Returned

@@ -16,8 +16,8 @@ use Rattle.errors.specs.declared.Refusal.{Refusal}
 use Rattle.pairs.specs.Pairs.{sub_at}
 use Rattle.pairs.proofs.Frames.{stands_then, stands_up, pushed_stands}
 use Rattle.apply.specs.Region.{Ready, Gives}
-use Rattle.apply.specs.declared.Applied.{Applied}
-use Rattle.apply.specs.declared.Applied.TheVariants.{Done, Refused}
+use Rattle.apply.specs.Applied.{Applied}
+use Rattle.apply.specs.Applied.{Done, Refused}
 use Rattle.apply.proofs.Hand.{Then, then_done, refuse_on, gave, failed}
 use Rattle.apply.proofs.Ways.{Room}
 use Rattle.compose.specs.Answers.{GivesU, ReadyU}

@@ -1,61 +1,40 @@
 -- Laws of words that are moved up, and of what pairs say of a variable.
 use mathlib.Core.Path.{◌≡◌, refl, sym, ◌∙◌}
-use mathlib.Core.List.{List}
-use mathlib.Core.Logic.{⊎_elim}
+use mathlib.Core.List.{List, ◌++◌}
 use Prim.Native.Nat.{ℕ, ◌+◌, ◌-◌, ◌<◌, ◌≤◌}
+use native.Mathlib.Decide.{dec_lt}
 use native.Mathlib.Omega.{arith}
-use native.Mathlib.Nat.{eq-or-lt_of_le}
-use lib.ListN.{length, get_or, set, length-set}
-use lib.Seq.{get_or-set_same, get_or-set_other}
+use lib.ListN.{length, get_or}
+use Rattle.std.specs.List.{CopiedTo, SameBelow, SameFrom}
+use Rattle.ast.proofs.Join.{get_low, get_high}
 use Rattle.names.specs.Names.{first_nullary}
 use Rattle.ast.proofs.Laws.{low_var}
 use Rattle.pairs.specs.Pairs.{find_at}
-use Rattle.pairs.specs.declared.Found.{Found}
-use Rattle.pairs.specs.declared.Found.TheVariants.{At, Nothing}
 use Rattle.pairs.proofs.Looks.{look_at, look_nothing, found_at}
 use Rattle.ends.specs.Ends.{Raised, Seen}
+use Rattle.std.specs.Option.{unwrap_or}
+use Rattle.std.specs.Prelude.{Option, Some, None}
 
--- The words from i up to end have been moved up by d.
-pub record Raising (w w' : List ℕ) (at end d i : ℕ) : Type 0 where
-  pub long : length w' ≡ length w
-  pub from : at ≤ i
-  pub upto : i ≤ end
-  pub moved : (q : ℕ) → i ≤ q → q < end → get_or w' (q + d) 0 ≡ get_or w q 0
-  pub before : (q : ℕ) → q < i + d → get_or w' q 0 ≡ get_or w q 0
-  pub after : (q : ℕ) → end + d ≤ q → get_or w' q 0 ≡ get_or w q 0
+-- Words that were copied within the buffer behind a closed table were moved up.
+pub copied : (b v v' : List ℕ) (at end to : ℕ) → length b ≤ at → at ≤ end → end ≤ to
+    → CopiedTo v v' (at - length b) (at + (to - end) - length b) (end - length b - (at - length b)) × SameBelow v v' (at + (to - end) - length b) × SameFrom v v' (at + (to - end) - length b + (end - length b - (at - length b)))
+    → Raised (b ++ v) (b ++ v') at end (to - end)
+copied b v v' at end to h i j C = record { moved = moved; before = λ q a. before q a (dec_lt q (length b)); after = after }
+  where
+    moved : (q : ℕ) → at ≤ q → q < end → get_or (b ++ v') (q + (to - end)) 0 ≡ get_or (b ++ v) q 0
+    moved q a u =
+        let e : at - length b + (q + (to - end) - length b - (at + (to - end) - length b)) ≡ q - length b = omega arith in
+        get_high b v' (q + (to - end)) (q + (to - end) - length b) (omega arith)
+        ∙ C.0 (q + (to - end) - length b) 0 (omega arith) (omega arith) ∙ rw e (sym (get_high b v q (q - length b) (omega arith)))
 
--- At first none have.
-pub raising : (w : List ℕ) (at end d : ℕ) → at ≤ end → Raising w w at end d end
-raising w at end d h = record { long = refl; from = h; upto = omega arith; moved = λ q a b. absurd (omega arith); before = λ q a. refl; after = λ q a. refl }
+    before : (q : ℕ) → q < at → Dec (q < length b) → get_or (b ++ v') q 0 ≡ get_or (b ++ v) q 0
+    before q a (yes l) = get_low b v' q l ∙ sym (get_low b v q l)
+    before q a (no n) = get_high b v' q (q - length b) (omega arith) ∙ C.1 (q - length b) 0 (omega arith) ∙ sym (get_high b v q (q - length b) (omega arith))
 
-module _ {w w₁ : List ℕ} {at end d i : ℕ} (S : Raising w w₁ at end d i) where
-  -- One more word.
-  pub raising_on : {w₂ : List ℕ} {v : ℕ} → at < i → end + d ≤ length w → v ≡ get_or w₁ (i - 1) 0 → w₂ ≡ set w₁ (i - 1 + d) v → Raising w w₂ at end d (i - 1)
-  raising_on {w₂} {v} h l ev ew =
-      let u = S.upto in
-      let n = S.long in
-      rw ew (record {
-        long = rw length-set n;
-        from = omega arith;
-        upto = omega arith;
-        moved = λ q a b. let c : i - 1 ≤ q = a in ⊎_elim
-            (λ (e : i - 1 ≡ q). rw (← e, get_or-set_same w₁ (i - 1 + d) v 0 (omega arith)) (ev ∙ S.before (i - 1) (omega arith)))
-            (λ (e : i - 1 < q). get_or-set_other w₁ (i - 1 + d) (q + d) v 0 (omega arith) ∙ S.moved q (omega arith) b)
-            (eq-or-lt_of_le c);
-        before = λ q a. get_or-set_other w₁ (i - 1 + d) q v 0 (omega arith) ∙ S.before q (omega arith);
-        after = λ q a. get_or-set_other w₁ (i - 1 + d) q v 0 (omega arith) ∙ S.after q a;
-      })
+    after : (q : ℕ) → end + (to - end) ≤ q → get_or (b ++ v') q 0 ≡ get_or (b ++ v) q 0
+    after q a = get_high b v' q (q - length b) (omega arith) ∙ C.2 (q - length b) 0 (omega arith) ∙ sym (get_high b v q (q - length b) (omega arith))
 
-  -- All have.
-  pub raised : i ≤ at → Raised w w₁ at end d
-  raised h = let f = S.from in record { moved = λ q a b. S.moved q (omega arith) b; before = λ q a. S.before q (omega arith); after = S.after }
-
--- What `find` returned, f, says what the pairs say.
-module _ (w : List ℕ) (at k a : ℕ) {f : Found} (e : f ≡ find_at w at k a) where
-  -- The variable is there.
-  pub seen_there : {m : ℕ} → f ≡ At m → Seen w at k a m
-  seen_there h = record { is = λ ns N. look_at ns N w at k a e h; below = λ top S. found_at a S e h }
-
-  -- It is not.
-  pub seen_not : a < first_nullary → f ≡ Nothing → Seen w at k a a
-  seen_not v h = record { is = λ ns N. look_nothing ns N w at k a e h ∙ sym (low_var ns w a v); below = λ top S. omega arith }
+-- What the pairs have for a variable, or the variable itself, is what they say of it: f is what `find` returned.
+pub seen_or : (w : List ℕ) (at k a : ℕ) (f : Option ℕ) → f ≡ find_at w at k a → a < first_nullary → Seen w at k a (unwrap_or f a)
+seen_or w at k a (Some m) e v = record { is = λ ns N. look_at ns N w at k a e refl; below = λ top S. found_at a S e refl }
+seen_or w at k a None e v = record { is = λ ns N. look_nothing ns N w at k a e refl ∙ sym (low_var ns w a v); below = λ top S. omega arith }

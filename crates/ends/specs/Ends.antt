@@ -12,10 +12,10 @@ use Rattle.ast.specs.Table.{tree, Table, Node}
 use Rattle.errors.specs.Refusals.{Refuses}
 use Rattle.pairs.specs.Pairs.{sub_at, Sub, Stands}
 use Rattle.cores.specs.Terms.{core}
-use Rattle.ends.specs.declared.Ended.{Ended}
-use Rattle.ends.specs.declared.Ended.TheVariants.{Done as Ended-Done, Refused as Ended-Refused}
-use Rattle.ends.specs.declared.Joined.{Joined}
-use Rattle.ends.specs.declared.Joined.TheVariants.{Done as Joined-Done, Refused as Joined-Refused}
+use Rattle.ends.specs.Ended.{Ended}
+use Rattle.ends.specs.Ended.{Done as Ended-Done, Refused as Ended-Refused}
+use Rattle.ends.specs.Joined.{Joined}
+use Rattle.ends.specs.Joined.{Done as Joined-Done, Refused as Joined-Refused}
 
 -- ## The end of `infer_abs`
 

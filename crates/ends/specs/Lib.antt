@@ -1,1 +1,3 @@
+pub mod Joined
+pub mod Ended
 pub mod Ends

@@ -8,210 +8,182 @@ ghost use Rattle.pairs.specs.Pairs.{sub_at};
 ghost use Rattle.cores.specs.Terms.{core};
 ghost use Rattle.compose.specs.Answers.{GivesU};
 ghost use Rattle.ends.specs.Ends.{abs_ended, ReadyAbs, GivesAbs, met, gathered, closed, joined, ReadyMeet, Raised, Seen, ReadyGather, ReadyApp, GivesJoin};
+ghost use Rattle.apply.specs.Applied.{applied_of};
+ghost use Rattle.ends.specs.Ended.{ended_of};
+ghost use Rattle.ends.specs.Joined.{joined_of};
 
-use apply::Applied;
-use errors::Refusal;
-use pairs::Found;
+use ast::{Base, Room};
+use compose::Beside;
+use errors::{DEPTH, Refusal};
+use pairs::Subst;
 
-// A type's word and a core term's, the first free node and the steps left; or a refusal with the same two.
+// What a function was inferred to be: its type, and its core term.
 #[derive(Clone, Copy)]
-pub enum Ended {
-    Done(usize, usize, usize, usize),
-    Refused(Refusal, usize, usize),
+pub struct Function {
+    pub ty: usize,
+    pub term: usize,
 }
 
-// A type's word and how many pairs there are, the first free node and the steps left; or a refusal with the same two.
+// The type of an application, and how many pairs its substitution has.
 #[derive(Clone, Copy)]
-pub enum Joined {
-    Done(usize, usize, usize, usize),
-    Refused(Refusal, usize, usize),
+pub struct Join {
+    pub ty: usize,
+    pub pairs: usize,
 }
 
 // The end of `infer_abs`: the k pairs that end at sp applied to the variable a, the arrow from that to t, and the
 // function of x with the body e.
 pub fn abs_end(
-    base: &[u64],
+    base: Base,
     work: &mut [u64],
-    names: &[u64],
-    top: usize,
-    left: usize,
+    room: &mut Room,
     sp: usize,
     k: usize,
     a: usize,
     t: usize,
     x: usize,
     e: usize,
-) -> Ended
-    requires base_len_bound { length base.now ≤ 4 * top }
-    requires ready_abs { ReadyAbs names.now (base.now ++ work.old) top left sp k a t e }
-    ensures { GivesAbs names.now (base.now ++ work.old) (base.now ++ work.new) top left
-        (abs_ended (sub_at names.now (base.now ++ work.old) (sp - 2 * k) k) (tyvar_of names.now a)
-        (tree names.now (base.now ++ work.old) t) (name_of names.now x) (core names.now (base.now ++ work.old) e) left) result }
+) -> Result<Function, Refusal>
+    requires base_len_bound { length base.words.now ≤ 4 * room.old.top }
+    requires ready_abs { ReadyAbs base.names.now (base.words.now ++ work.old) room.old.top room.old.left sp k a t e }
+    ensures { GivesAbs base.entry.names.now (base.entry.words.now ++ work.old) (base.entry.words.now ++ work.new) room.old.top room.old.left
+        (abs_ended (sub_at base.entry.names.now (base.entry.words.now ++ work.old) (sp - 2 * k) k) (tyvar_of base.entry.names.now a)
+        (tree base.entry.names.now (base.entry.words.now ++ work.old) t) (name_of base.entry.names.now x) (core base.entry.names.now (base.entry.words.now ++ work.old) e) room.old.left) (ended_of result room.new.top room.new.left) }
 {
-    let at = sp - 2 * k;
-    let r = apply::apply(base, work, names, top, left, 256, at, k, a);
-    match r {
-        Applied::Done(u, n, l) => {
-            ast::push(base, work, n, 2, u, t);
-            let m = n + 1;
-            cores::push_abs(base, work, m, x, e);
-            Ended::Done(names::NODE + n, names::NODE + m, m + 1, l)
-        }
-        Applied::Refused(f, n, l) => Ended::Refused(f, n, l),
-    }
+    let sub = Subst { at: sp - 2 * k, k };
+    let u = apply::apply(base, work, room, DEPTH, sub, a)?;
+    let ty = ast::add(base, work, room, ast::ARROW, u, t);
+    let term = cores::push_abs(base, work, room, x, e);
+    Ok(Function { ty, term })
 }
 
 // The type tf after the k2 pairs from lo, where the stack ends, unified with the arrow from tx to the variable a; the
 // pairs that it gives end at lo.
 fn meet(
-    base: &[u64],
+    base: Base,
     work: &mut [u64],
-    names: &[u64],
-    top: usize,
-    left: usize,
+    room: &mut Room,
     lo: usize,
     k2: usize,
     a: usize,
     tf: usize,
     tx: usize,
-) -> Applied
-    requires base_len_bound { length base.now ≤ 4 * top }
-    requires ready_meet { ReadyMeet names.now (base.now ++ work.old) top left lo k2 a tf tx }
-    ensures { GivesU 1 0 names.now (base.now ++ work.old) (base.now ++ work.new) top left lo
-        (met (sub_at names.now (base.now ++ work.old) lo k2) (tree names.now (base.now ++ work.old) tf)
-        (tree names.now (base.now ++ work.old) tx) (tyvar_of names.now a) left) result }
+) -> Result<usize, Refusal>
+    requires base_len_bound { length base.words.now ≤ 4 * room.old.top }
+    requires ready_meet { ReadyMeet base.names.now (base.words.now ++ work.old) room.old.top room.old.left lo k2 a tf tx }
+    ensures { GivesU 1 0 base.entry.names.now (base.entry.words.now ++ work.old) (base.entry.words.now ++ work.new) room.old.top room.old.left lo
+        (met (sub_at base.entry.names.now (base.entry.words.now ++ work.old) lo k2) (tree base.entry.names.now (base.entry.words.now ++ work.old) tf)
+        (tree base.entry.names.now (base.entry.words.now ++ work.old) tx) (tyvar_of base.entry.names.now a) room.old.left) (applied_of result room.new.top room.new.left) }
 {
-    let r = apply::apply(base, work, names, top, left, 256, lo, k2, tf);
-    match r {
-        Applied::Done(u, t, l) => {
-            ast::push(base, work, t, 2, tx, a);
-            unify::unify(base, work, names, t + 1, l, 256, lo, u, names::NODE + t)
-        }
-        Applied::Refused(e, t, l) => Applied::Refused(e, t, l),
-    }
+    let sub = Subst { at: lo, k: k2 };
+    let u = apply::apply(base, work, room, DEPTH, sub, tf)?;
+    let arrow = ast::add(base, work, room, ast::ARROW, tx, a);
+    unify::unify(base, work, room, DEPTH, lo, u, arrow)
 }
 
 // Moves the words from at up to end up, so that they end at to.
-fn raise(base: &[u64], work: &mut [u64], at: usize, end: usize, to: usize)
-    requires base_len_bound { length base.now ≤ at }
+fn raise(base: Base, work: &mut [u64], at: usize, end: usize, to: usize)
+    requires base_len_bound { length base.words.now ≤ at }
     requires at_le_end { at ≤ end }
     requires end_le_to { end ≤ to }
-    requires to_in_bounds { to ≤ length (base.now ++ work.old) }
-    ensures { Raised (base.now ++ work.old) (base.now ++ work.new) at end (to - end) }
+    requires to_in_bounds { to ≤ length (base.words.now ++ work.old) }
+    ensures { Raised (base.entry.words.now ++ work.old) (base.entry.words.now ++ work.new) at end (to - end) }
 {
-    let d = to - end;
-    let mut i = end;
-    while i > at {
-        i -= 1;
-        let v = ast::index(base, work, i);
-        pairs::put(base, work, i + d, v);
-    }
+    let n = base.words.len();
+    work.copy_within(at - n..end - n, at + (to - end) - n);
 }
 
-// What the k pairs from at say of the variable a.
-fn seen(base: &[u64], work: &[u64], at: usize, k: usize, a: usize) -> usize
-    requires k_in_bounds { at + 2 * k ≤ length (base.now ++ work.now) }
+// What the pairs say of the variable a.
+fn seen(base: Base, work: &[u64], sub: Subst, a: usize) -> usize
+    requires k_in_bounds { sub.at + 2 * sub.k ≤ length (base.words.now ++ work.now) }
     requires a_lt_first_nullary { a < first_nullary }
-    ensures { Seen (base.now ++ work.now) at k a result }
+    ensures { Seen (base.entry.words.now ++ work.now) sub.at sub.k a result }
 {
-    let f = pairs::find(base, work, at, k, a);
-    match f {
-        Found::At(m) => m,
-        Found::Nothing => a,
-    }
+    pairs::find(base, work, sub, a).unwrap_or(a)
 }
 
 // Three regions side by side that end at sp become one that ends there: k1 pairs, then the k2 below them, then the k3
 // below those.
 fn gather(
-    base: &[u64],
+    base: Base,
     work: &mut [u64],
-    names: &[u64],
-    top: usize,
-    left: usize,
+    room: &mut Room,
     sp: usize,
     k3: usize,
     k2: usize,
     k1: usize,
-) -> Applied
-    requires base_len_bound { length base.now ≤ 4 * top }
-    requires ready_gather { ReadyGather names.now (base.now ++ work.old) top left sp k3 k2 k1 }
-    ensures { GivesU 0 (2 * k3 + 2 * k2 + 2 * k1) names.now (base.now ++ work.old) (base.now ++ work.new) top left sp
-        (gathered (sub_at names.now (base.now ++ work.old) (sp - 2 * k1 - 2 * k2 - 2 * k3) k3)
-        (sub_at names.now (base.now ++ work.old) (sp - 2 * k1 - 2 * k2) k2) (sub_at names.now (base.now ++ work.old) (sp - 2 * k1) k1) left) result }
+) -> Result<usize, Refusal>
+    requires base_len_bound { length base.words.now ≤ 4 * room.old.top }
+    requires ready_gather { ReadyGather base.names.now (base.words.now ++ work.old) room.old.top room.old.left sp k3 k2 k1 }
+    ensures { GivesU 0 (2 * k3 + 2 * k2 + 2 * k1) base.entry.names.now (base.entry.words.now ++ work.old) (base.entry.words.now ++ work.new) room.old.top room.old.left sp
+        (gathered (sub_at base.entry.names.now (base.entry.words.now ++ work.old) (sp - 2 * k1 - 2 * k2 - 2 * k3) k3)
+        (sub_at base.entry.names.now (base.entry.words.now ++ work.old) (sp - 2 * k1 - 2 * k2) k2) (sub_at base.entry.names.now (base.entry.words.now ++ work.old) (sp - 2 * k1) k1) room.old.left) (applied_of result room.new.top room.new.left) }
 {
     let lo = sp - 2 * k1 - 2 * k2;
-    let r = compose::compose_in(base, work, names, top, left, lo, k2, k1);
-    match r {
-        Applied::Done(c, t, l) => {
-            let to = sp - 2 * c;
-            raise(base, work, lo - 2 * k3, lo, to);
-            compose::compose_in(base, work, names, t, l, to - 2 * k3, k3, c)
-        }
-        Applied::Refused(e, t, l) => Applied::Refused(e, t, l),
-    }
+    let c = compose::compose_in(base, work, room, Beside { lo, k2, k1 })?;
+    let to = sp - 2 * c;
+    raise(base, work, lo - 2 * k3, lo, to);
+    let sides = Beside {
+        lo: to - 2 * k3,
+        k2: k3,
+        k1: c,
+    };
+    compose::compose_in(base, work, room, sides)
 }
 
 // The three regions made one, and what the lowest of them says of the variable a, which takes a step.
 fn close(
-    base: &[u64],
+    base: Base,
     work: &mut [u64],
-    names: &[u64],
-    top: usize,
-    left: usize,
+    room: &mut Room,
     sp: usize,
     k3: usize,
     k2: usize,
     k1: usize,
     a: usize,
-) -> Joined
-    requires base_len_bound { length base.now ≤ 4 * top }
+) -> Result<Join, Refusal>
+    requires base_len_bound { length base.words.now ≤ 4 * room.old.top }
     requires a_lt_first_nullary { a < first_nullary }
-    requires ready_gather { ReadyGather names.now (base.now ++ work.old) top left sp k3 k2 k1 }
-    ensures { GivesJoin 8 1 (2 * k3 + 2 * k2 + 2 * k1) names.now (base.now ++ work.old) (base.now ++ work.new) top left sp
-        (closed (sub_at names.now (base.now ++ work.old) (sp - 2 * k1 - 2 * k2 - 2 * k3) k3)
-        (sub_at names.now (base.now ++ work.old) (sp - 2 * k1 - 2 * k2) k2) (sub_at names.now (base.now ++ work.old) (sp - 2 * k1) k1)
-        (tyvar_of names.now a) left) result }
+    requires ready_gather { ReadyGather base.names.now (base.words.now ++ work.old) room.old.top room.old.left sp k3 k2 k1 }
+    ensures { GivesJoin 8 1 (2 * k3 + 2 * k2 + 2 * k1) base.entry.names.now (base.entry.words.now ++ work.old) (base.entry.words.now ++ work.new) room.old.top room.old.left sp
+        (closed (sub_at base.entry.names.now (base.entry.words.now ++ work.old) (sp - 2 * k1 - 2 * k2 - 2 * k3) k3)
+        (sub_at base.entry.names.now (base.entry.words.now ++ work.old) (sp - 2 * k1 - 2 * k2) k2) (sub_at base.entry.names.now (base.entry.words.now ++ work.old) (sp - 2 * k1) k1)
+        (tyvar_of base.entry.names.now a) room.old.left) (joined_of result room.new.top room.new.left) }
 {
-    let u = seen(base, work, sp - 2 * k1 - 2 * k2 - 2 * k3, k3, a);
-    let r = gather(base, work, names, top, left, sp, k3, k2, k1);
-    match r {
-        Applied::Done(k, t, l) => {
-            if l == 0 {
-                return Joined::Refused(Refusal::Steps, t, 0);
-            }
-            Joined::Done(u, k, t, l - 1)
-        }
-        Applied::Refused(e, t, l) => Joined::Refused(e, t, l),
+    let sub = Subst {
+        at: sp - 2 * k1 - 2 * k2 - 2 * k3,
+        k: k3,
+    };
+    let ty = seen(base, work, sub, a);
+    let pairs = gather(base, work, room, sp, k3, k2, k1)?;
+    if room.left == 0 {
+        return Err(Refusal::Steps);
     }
+    room.left -= 1;
+    Ok(Join { ty, pairs })
 }
 
 // The end of `infer_app`: the type tf of the function, after the k2 pairs of the argument, unified with the arrow from
 // tx to the variable a; all substitutions composed, the k1 pairs of the function first; and the type of a.
 pub fn app_end(
-    base: &[u64],
+    base: Base,
     work: &mut [u64],
-    names: &[u64],
-    top: usize,
-    left: usize,
+    room: &mut Room,
     sp: usize,
     k1: usize,
     k2: usize,
     a: usize,
     tf: usize,
     tx: usize,
-) -> Joined
-    requires base_len_bound { length base.now ≤ 4 * top }
-    requires ready_app { ReadyApp names.now (base.now ++ work.old) top left sp k1 k2 a tf tx }
-    ensures { GivesJoin 14 2 (2 * k1 + 2 * k2) names.now (base.now ++ work.old) (base.now ++ work.new) top left sp
-        (joined (sub_at names.now (base.now ++ work.old) (sp - 2 * k1) k1) (tree names.now (base.now ++ work.old) tf)
-        (sub_at names.now (base.now ++ work.old) (sp - 2 * k1 - 2 * k2) k2) (tree names.now (base.now ++ work.old) tx)
-        (tyvar_of names.now a) left) result }
+) -> Result<Join, Refusal>
+    requires base_len_bound { length base.words.now ≤ 4 * room.old.top }
+    requires ready_app { ReadyApp base.names.now (base.words.now ++ work.old) room.old.top room.old.left sp k1 k2 a tf tx }
+    ensures { GivesJoin 14 2 (2 * k1 + 2 * k2) base.entry.names.now (base.entry.words.now ++ work.old) (base.entry.words.now ++ work.new) room.old.top room.old.left sp
+        (joined (sub_at base.entry.names.now (base.entry.words.now ++ work.old) (sp - 2 * k1) k1) (tree base.entry.names.now (base.entry.words.now ++ work.old) tf)
+        (sub_at base.entry.names.now (base.entry.words.now ++ work.old) (sp - 2 * k1 - 2 * k2) k2) (tree base.entry.names.now (base.entry.words.now ++ work.old) tx)
+        (tyvar_of base.entry.names.now a) room.old.left) (joined_of result room.new.top room.new.left) }
 {
     let lo = sp - 2 * k1 - 2 * k2;
-    let r = meet(base, work, names, top, left, lo, k2, a, tf, tx);
-    match r {
-        Applied::Done(k3, t, l) => close(base, work, names, t, l, sp, k3, k2, k1, a),
-        Applied::Refused(e, t, l) => Joined::Refused(e, t, l),
-    }
+    let k3 = meet(base, work, room, lo, k2, a, tf, tx)?;
+    close(base, work, room, sp, k3, k2, k1, a)
 }

@@ -4,6 +4,9 @@
 ghost use Rattle.std.specs.Prelude.{◌≡◌};
 ghost use Rattle.errors.specs.Refusals.{Numbered};
 
+// How deep types, terms and goals may be.
+pub const DEPTH: usize = 256;
+
 // The refusals that the port adds, 1 to 3 with an offset into the file; then `InferenceError`, variant by variant. A
 // name is its number, a type or a type variable its word.
 #[derive(Clone, Copy)]
@@ -30,7 +33,7 @@ pub enum Refusal {
     MissingMethod(usize, usize, usize),
 }
 
-// Document 01's number of a refusal.
+// Document 01's number of a refusal. Numbers have gaps and variants have fields, so no `as` gives them.
 pub fn number(e: Refusal) -> u64
     ensures { Numbered e result }
 {

@@ -10,18 +10,18 @@ use Rattle.reader.specs.Placing.{upto}
 use Rattle.views.specs.Numbers.{Named}
 use Rattle.views.specs.ExprViews.{ExprAs, IsExpr}
 use Rattle.views.specs.declared.ExprNode.{ExprNode}
-use Rattle.views.specs.declared.ExprNode.TheVariants.{Var as V-Var, Int as V-Int, Bool as V-Bool, Abs as V-Abs, App as V-App, Let as V-Let, Nothing as V-Nothing}
+use Rattle.views.specs.declared.ExprNode.TheVariants.{Var, Int, Bool, Abs, App, Let}
 use Rattle.views.proofs.Earlier.{named_smaller, named_whole}
-use Rattle.body.specs.declared.Reading.TheVariants.{Good}
+use Rattle.std.specs.Prelude.{Option as Option-of, Some, None, Ok}
+use Rattle.nodes.specs.declared.Counts.{Counts}
 use Rattle.file.specs.Reading.{IsName, Reads}
 use Rattle.exprs.specs.Exprs.{Written, Shows}
-use Rattle.exprs.specs.declared.Node.TheVariants.{Var, Int, Bool, Abs, App, Let, Nothing}
 
 -- Each expression of a file that was accepted is written so.
-pub accepted_written : {bytes ns ix : List ℕ} {a b c d : ℕ} (R : Reads bytes ns ix (Good a b c d)) {i : ℕ} {x : Expr} → nth R.is.0.exprs i ≡ some x → Written bytes ns ix i x
-accepted_written {a = a} {b = b} {c = c} {d = d} R h = record { file = R.is.0; a = a; b = b; c = c; d = d; indexed = R.is.2; there = h }
+pub accepted_written : {bytes ns ix : List ℕ} {m : Counts} (R : Reads bytes ns ix (Ok m)) {i : ℕ} {x : Expr} → nth R.is.0.exprs i ≡ some x → Written bytes ns ix i x
+accepted_written {m = m} R h = record { file = R.is.0; a = m.names; b = m.types; c = m.exprs; d = m.decls; indexed = R.is.2; there = h }
 
-module _ {bytes ix : List ℕ} {i : ℕ} {e : ExprNode} (G : IsExpr bytes ix i e) where
+module _ {bytes ix : List ℕ} {i : ℕ} {e : Option-of ExprNode} (G : IsExpr bytes ix i e) where
   module _ {ns : List ℕ} {x : Expr} (W : Written bytes ns ix i x) where
     -- What `views` says of the expression, among the names and expressions of its file.
     seen : ExprAs W.file.names (upto i W.file.exprs) x e
@@ -39,19 +39,19 @@ module _ {bytes ix : List ℕ} {i : ℕ} {e : ExprNode} (G : IsExpr bytes ix i e
     number {y = y} R N = (R.small bytes ns W.file _ _ _ _ W.indexed y N.there, R.is bytes ns W.file _ _ _ _ W.indexed y N.there)
 
   -- A variable.
-  pub shows_var : {x r : ℕ} → e ≡ V-Var x → IsName ix x r → Shows bytes ix i (Var r)
+  pub shows_var : {x r : ℕ} → e ≡ Some (Var x) → IsName ix x r → Shows bytes ix i (Some (Var r))
   shows_var h R = record { is = λ ns y W. let s = rw h at (seen W) in let n = number W R s.named_so in record { small = n.0; is = s.is ∙ ap evar (sym n.1) } }
 
   -- A number.
-  pub shows_int : {v : ℕ} → e ≡ V-Int v → Shows bytes ix i (Int v)
+  pub shows_int : {v : ℕ} → e ≡ Some (Int v) → Shows bytes ix i (Some (Int v))
   shows_int h = record { is = λ ns y W. rw h at (seen W) }
 
   -- A truth value.
-  pub shows_bool : {b : _} → e ≡ V-Bool b → Shows bytes ix i (Bool b)
+  pub shows_bool : {b : _} → e ≡ Some (Bool b) → Shows bytes ix i (Some (Bool b))
   shows_bool h = record { is = λ ns y W. rw h at (seen W) }
 
   -- A function.
-  pub shows_abs : {x b r : ℕ} → e ≡ V-Abs x b → IsName ix x r → Shows bytes ix i (Abs r b)
+  pub shows_abs : {x b r : ℕ} → e ≡ Some (Abs x b) → IsName ix x r → Shows bytes ix i (Some (Abs r b))
   shows_abs h R = record {
     is = λ ns y W.
         let s = rw h at (seen W) in
@@ -61,7 +61,7 @@ module _ {bytes ix : List ℕ} {i : ℕ} {e : ExprNode} (G : IsExpr bytes ix i e
   }
 
   -- An application.
-  pub shows_app : {f a : ℕ} → e ≡ V-App f a → Shows bytes ix i (App f a)
+  pub shows_app : {f a : ℕ} → e ≡ Some (App f a) → Shows bytes ix i (Some (App f a))
   shows_app h = record {
     is = λ ns y W.
         let s = rw h at (seen W) in
@@ -71,7 +71,7 @@ module _ {bytes ix : List ℕ} {i : ℕ} {e : ExprNode} (G : IsExpr bytes ix i e
   }
 
   -- A let.
-  pub shows_let : {x b f r : ℕ} → e ≡ V-Let x b f → IsName ix x r → Shows bytes ix i (Let r b f)
+  pub shows_let : {x b f r : ℕ} → e ≡ Some (Let x b f) → IsName ix x r → Shows bytes ix i (Some (Let r b f))
   shows_let h R = record {
     is = λ ns y W.
         let s = rw h at (seen W) in
@@ -90,6 +90,6 @@ module _ {bytes ix : List ℕ} {i : ℕ} {e : ExprNode} (G : IsExpr bytes ix i e
         };
   }
 
-  -- An expression of the file is never nothing.
-  pub shows_nothing : e ≡ V-Nothing → Shows bytes ix i Nothing
-  shows_nothing h = record { is = λ ns y W. rw h at (seen W) }
+  -- An expression of the file is always a node.
+  pub shows_none : e ≡ None → Shows bytes ix i None
+  shows_none h = record { is = λ ns y W. rw h at (seen W) }

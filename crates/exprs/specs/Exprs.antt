@@ -1,13 +1,13 @@
 -- Expressions of a session file by their numbers, with the names in them as numbers of the table of names.
-use Rattle.std.specs.Prelude.{◌≡◌, List, ℕ, ◌<◌}
+use Rattle.std.specs.Prelude.{◌≡◌, List, ℕ, ◌<◌, Option, Some, None}
 use Rattle.std.proofs.Math.Option.{some}
 use Rattle.meaning.specs.Base.{nth}
 use Rattle.meaning.specs.Ast.{Expr, evar, eint, ebool, eabs, eapp, elet}
 use Rattle.meaning.specs.File as M
 use Rattle.names.specs.Names.{name_of}
 use Rattle.file.specs.Reading.{Indexed}
-use Rattle.exprs.specs.declared.Node.{Node}
-use Rattle.exprs.specs.declared.Node.TheVariants.{Var, Int, Bool, Abs, App, Let, Nothing}
+use Rattle.views.specs.declared.ExprNode.{ExprNode}
+use Rattle.views.specs.declared.ExprNode.TheVariants.{Var, Int, Bool, Abs, App, Let}
 
 -- Names table and index hold a file, whose expression i is x.
 pub record Written (bytes ns ix : List ℕ) (i : ℕ) (x : Expr) : Type 0 where
@@ -53,16 +53,16 @@ pub record LetShown (bytes ns ix : List ℕ) (i : ℕ) (x : Expr) (r b f : ℕ) 
   pub body_so : Written bytes ns ix f body
   pub is : x ≡ elet (name_of ns r) bound body
 
--- What the answer says of the expression x. One of a file is never Nothing.
-abbrev pub ShownAs : List ℕ → List ℕ → List ℕ → ℕ → Expr → Node → Type 0
-ShownAs bytes ns ix i x (Var r) = VarShown ns x r
-ShownAs bytes ns ix i x (Int v) = x ≡ eint v
-ShownAs bytes ns ix i x (Bool b) = x ≡ ebool b
-ShownAs bytes ns ix i x (Abs r b) = AbsShown bytes ns ix i x r b
-ShownAs bytes ns ix i x (App f a) = AppShown bytes ns ix i x f a
-ShownAs bytes ns ix i x (Let r b f) = LetShown bytes ns ix i x r b f
-ShownAs bytes ns ix i x Nothing = ⊥
+-- What the answer says of the expression x. One of a file is always a node.
+abbrev pub ShownAs : List ℕ → List ℕ → List ℕ → ℕ → Expr → Option ExprNode → Type 0
+ShownAs bytes ns ix i x (Some (Var r)) = VarShown ns x r
+ShownAs bytes ns ix i x (Some (Int v)) = x ≡ eint v
+ShownAs bytes ns ix i x (Some (Bool b)) = x ≡ ebool b
+ShownAs bytes ns ix i x (Some (Abs r b)) = AbsShown bytes ns ix i x r b
+ShownAs bytes ns ix i x (Some (App f a)) = AppShown bytes ns ix i x f a
+ShownAs bytes ns ix i x (Some (Let r b f)) = LetShown bytes ns ix i x r b f
+ShownAs bytes ns ix i x None = ⊥
 
 -- The answer is right for whatever table of names the index goes with.
-pub record Shows (bytes ix : List ℕ) (i : ℕ) (r : Node) : Type 0 where
+pub record Shows (bytes ix : List ℕ) (i : ℕ) (r : Option ExprNode) : Type 0 where
   pub is : (ns : List ℕ) (x : Expr) → Written bytes ns ix i x → ShownAs bytes ns ix i x r

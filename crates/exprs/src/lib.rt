@@ -3,32 +3,21 @@
 
 ghost use Rattle.exprs.specs.Exprs.{Shows};
 
-use views::ExprNode;
+use views::File;
 
-// An expression, by the numbers of its names in the table and of its parts in the file. Nothing where no node stands.
-#[derive(Clone, Copy)]
-pub enum Node {
-    Var(usize),
-    Int(usize),
-    Bool(bool),
-    Abs(usize, usize),
-    App(usize, usize),
-    Let(usize, usize, usize),
-    Nothing,
-}
+// An expression, by the numbers of its names in the table and of its parts in the file.
+pub use views::ExprNode as Node;
 
-// Expression i of the file.
-pub fn expr_at(src: &[u8], index: &[u64], i: usize) -> Node
-    ensures { Shows src.now index.now i result }
+// Expression i of the file; none where no node stands.
+pub fn expr_at(file: File, i: usize) -> Option<Node>
+    ensures { Shows file.entry.src.now file.entry.index.now i result }
 {
-    let e = views::expr_at(src, index, i);
-    match e {
-        ExprNode::Var(x) => Node::Var(file::name_number(index, x)),
-        ExprNode::Int(v) => Node::Int(v),
-        ExprNode::Bool(b) => Node::Bool(b),
-        ExprNode::Abs(x, b) => Node::Abs(file::name_number(index, x), b),
-        ExprNode::App(f, a) => Node::App(f, a),
-        ExprNode::Let(x, b, f) => Node::Let(file::name_number(index, x), b, f),
-        ExprNode::Nothing => Node::Nothing,
+    match views::expr_at(file, i)? {
+        Node::Var(x) => Some(Node::Var(file::name_number(file.index, x))),
+        Node::Int(v) => Some(Node::Int(v)),
+        Node::Bool(b) => Some(Node::Bool(b)),
+        Node::Abs(x, b) => Some(Node::Abs(file::name_number(file.index, x), b)),
+        Node::App(f, a) => Some(Node::App(f, a)),
+        Node::Let(x, b, f) => Some(Node::Let(file::name_number(file.index, x), b, f)),
     }
 }

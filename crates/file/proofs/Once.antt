@@ -3,9 +3,9 @@
 use mathlib.Core.Path.{◌≡◌, refl, sym, ap, ◌∙◌}
 use mathlib.Core.List.{List, []}
 use mathlib.Core.Option.{some}
-use Prim.Native.Nat.{ℕ, suc, ◌+◌, ◌≤◌}
+use Prim.Native.Nat.{ℕ, suc, ◌+◌}
 use native.Mathlib.Omega.{arith}
-use lib.ListN.{length, get_or, get_or-eq_default}
+use lib.ListN.{get_or}
 use Rattle.meaning.specs.Base.{count, nth}
 use Rattle.meaning.specs.Ast.{Name}
 use Rattle.meaning.specs.Errors as E
@@ -19,8 +19,8 @@ use Rattle.errors.specs.Refusals.{refusal_of}
 use Rattle.errors.specs.declared.Refusal.{Refusal}
 use Rattle.errors.specs.declared.Refusal.TheVariants.{Format, Limit, Reserved, Redeclared, Room, Steps, Depth, Output, UnboundVariable, UnificationFailure, OccursCheck, ConMismatch, ArityMismatch, NoInstance, Ambiguous, DuplicateInstance, UnknownClass, UnknownMethod, MissingSuperclass, MissingMethod}
 use Rattle.names.specs.Names.{name_of}
-use Rattle.body.specs.declared.Reading.{Reading}
-use Rattle.body.specs.declared.Reading.TheVariants.{Good, Bad}
+use Rattle.std.specs.Prelude.{Result, Ok, Err}
+use Rattle.nodes.specs.declared.Counts.{Counts}
 use Rattle.file.specs.Reading.{IsName, IsPlace, Reads}
 
 -- A refusal of a file: one of 1 to 3, with an offset.
@@ -101,45 +101,54 @@ never : (f : M.File) (n : ℕ) (bs : List ℕ) (x : E.Refusal) → got f n bs �
 never f n bs x e = let z : ◌≡◌ {A = ℕ} 0 1 = cc in omega arith
 
 -- Two answers for the same bytes are equal, whatever table and index each was given.
-pub reads_once : (bytes ns ix ns' ix' : List ℕ) (r r' : Reading) → Reads bytes ns ix r → Reads bytes ns' ix' r' → r ≡ r'
-reads_once bytes ns ix ns' ix' (Good a b c d) (Good a' b' c' d') g h =
+counts_same : (m n : Counts) → m.names ≡ n.names → m.types ≡ n.types → m.exprs ≡ n.exprs → m.decls ≡ n.decls → m ≡ n
+counts_same m n p q u v =
+    ap (λ (a : ℕ). record { names = a; types = m.types; exprs = m.exprs; decls = m.decls }) p
+    ∙ ap (λ (b : ℕ). record { names = n.names; types = b; exprs = m.exprs; decls = m.decls }) q
+    ∙ ap (λ (c : ℕ). record { names = n.names; types = n.types; exprs = c; decls = m.decls }) u
+    ∙ ap (λ (d : ℕ). record { names = n.names; types = n.types; exprs = n.exprs; decls = d }) v
+
+pub reads_once : (bytes ns ix ns' ix' : List ℕ) (r r' : Result Counts Refusal) → Reads bytes ns ix r → Reads bytes ns' ix' r' → r ≡ r'
+reads_once bytes ns ix ns' ix' (Ok m) (Ok n) g h =
     let e = same_file g.is.0 h.is.0 _ _ _ _ (sym g.is.1 ∙ h.is.1) in
-    let p : a ≡ a' = sym g.is.2.names_many ∙ ap (λ f. count f.names) e ∙ h.is.2.names_many in
-    let q : b ≡ b' = sym g.is.2.types_many ∙ ap (λ f. count f.types) e ∙ h.is.2.types_many in
-    let u : c ≡ c' = sym g.is.2.exprs_many ∙ ap (λ f. count f.exprs) e ∙ h.is.2.exprs_many in
-    let v : d ≡ d' = sym g.is.2.decls_many ∙ ap (λ f. count f.decls) e ∙ h.is.2.decls_many in
-    cc
-reads_once bytes ns ix ns' ix' (Good a b c d) (Bad e) g h = absurd (never g.is.0 _ _ _ (sym g.is.1 ∙ h.is))
-reads_once bytes ns ix ns' ix' (Bad e) (Good a b c d) g h = absurd (never h.is.0 _ _ _ (sym h.is.1 ∙ g.is))
-reads_once bytes ns ix ns' ix' (Bad d) (Bad e) g h =
-    ap Bad (same_refusal d e (of_file _ d (refused_within bytes _ g.is)) (of_file _ e (refused_within bytes _ h.is)) (same_bad _ _ (sym g.is ∙ h.is)))
+    let p : m.names ≡ n.names = sym g.is.2.names_many ∙ ap (λ f. count f.names) e ∙ h.is.2.names_many in
+    let q : m.types ≡ n.types = sym g.is.2.types_many ∙ ap (λ f. count f.types) e ∙ h.is.2.types_many in
+    let u : m.exprs ≡ n.exprs = sym g.is.2.exprs_many ∙ ap (λ f. count f.exprs) e ∙ h.is.2.exprs_many in
+    let v : m.decls ≡ n.decls = sym g.is.2.decls_many ∙ ap (λ f. count f.decls) e ∙ h.is.2.decls_many in
+    ap Ok (counts_same m n p q u v)
+reads_once bytes ns ix ns' ix' (Ok m) (Err e) g h = absurd (never g.is.0 _ _ _ (sym g.is.1 ∙ h.is))
+reads_once bytes ns ix ns' ix' (Err e) (Ok m) g h = absurd (never h.is.0 _ _ _ (sym h.is.1 ∙ g.is))
+reads_once bytes ns ix ns' ix' (Err d) (Err e) g h =
+    ap Err (same_refusal d e (of_file _ d (refused_within bytes _ g.is)) (of_file _ e (refused_within bytes _ h.is)) (same_bad _ _ (sym g.is ∙ h.is)))
 
 -- Both tables have the same name for each number of the file.
-pub same_names : (bytes ns ix ns' ix' : List ℕ) (a b c d a' b' c' d' : ℕ) (g : Reads bytes ns ix (Good a b c d)) (h : Reads bytes ns' ix' (Good a' b' c' d'))
+pub same_names : (bytes ns ix ns' ix' : List ℕ) (m n : Counts) (g : Reads bytes ns ix (Ok m)) (h : Reads bytes ns' ix' (Ok n))
     (i : ℕ) (x : Name) → nth g.is.0.names i ≡ some x → name_of ns (get_or ix i 0) ≡ name_of ns' (get_or ix' i 0)
-same_names bytes ns ix ns' ix' a b c d a' b' c' d' g h i x e =
+same_names bytes ns ix ns' ix' m n g h i x e =
     let f = same_file g.is.0 h.is.0 _ _ _ _ (sym g.is.1 ∙ h.is.1) in
     (g.is.2.names i x e).named ∙ sym (h.is.2.names i x (ap (λ (k : M.File). nth k.names i) (sym f) ∙ e)).named
 
 -- No two names of an accepted file are equal, and each of its nodes names only nodes of smaller number.
-pub reads_good : (bytes ns ix : List ℕ) (a b c d : ℕ) (g : Reads bytes ns ix (Good a b c d)) → Good-File g.is.0
-reads_good bytes ns ix a b c d g = accepted_good bytes g.is.0 _ _ g.is.1
+pub reads_good : (bytes ns ix : List ℕ) (m : Counts) (g : Reads bytes ns ix (Ok m)) → Good-File g.is.0
+reads_good bytes ns ix m g = accepted_good bytes g.is.0 _ _ g.is.1
 
 -- The offset of a refusal lies in the file or at its end.
-pub refuses_within : (bytes ns ix : List ℕ) (e : Refusal) → Reads bytes ns ix (Bad e) → UpTo (count bytes) (refusal_of [] [] e)
+pub refuses_within : (bytes ns ix : List ℕ) (e : Refusal) → Reads bytes ns ix (Err e) → UpTo (count bytes) (refusal_of [] [] e)
 refuses_within bytes ns ix e g = refused_within bytes _ g.is
 
--- Past the index a word reads as 0.
-pub past : (ix : List ℕ) (i : ℕ) → length ix ≤ i → 0 ≡ get_or ix i 0
-past ix i h = sym (get_or-eq_default ix 0 {n = i} h)
-
 -- The word of the index is the number.
-pub name_word : (ix : List ℕ) (i r : ℕ) → r ≡ get_or ix i 0 → IsName ix i r
-name_word ix i r e = record {
+pub name_word : (ix : List ℕ) (i r : ℕ) → r ≡ get_or ix (0 + i) 0 → IsName ix i r
+name_word ix i r h = record {
   word = e;
   is = λ bytes ns f a b c d g x h. ap (λ n. name_of ns n) e ∙ (g.names i x h).named;
   small = λ bytes ns f a b c d g x h. rw e (g.names i x h).number;
 }
+  where
+    first : 0 + i ≡ i
+    first = omega arith
+
+    e : r ≡ get_or ix i 0
+    e = h ∙ ap (λ n. get_or ix n 0) first
 
 -- The word of the index is the place.
 pub place_word : (ix : List ℕ) (i r : ℕ) → r ≡ get_or ix (10_752 + i) 0 → IsPlace ix i r

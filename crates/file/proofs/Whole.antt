@@ -16,8 +16,7 @@ use Rattle.theorems.proofs.Grown.{nth_below}
 use Rattle.errors.specs.Refusals.{refusal_of}
 use Rattle.errors.specs.declared.Refusal.{Refusal}
 use Rattle.errors.specs.declared.Refusal.TheVariants.{Limit}
-use Rattle.reader.specs.declared.Place.TheVariants.{Next, Bad}
-use Rattle.reader.specs.declared.Count.TheVariants.{Is, Bad as Count-Bad}
+use Rattle.std.specs.Prelude.{Result, Ok, Err}
 use Rattle.reader.specs.Verdicts.{IsCount}
 use Rattle.reader.proofs.Fields.{count-length}
 use Rattle.reader.proofs.Sequence.{stops}
@@ -25,8 +24,6 @@ use Rattle.nodes.specs.declared.Counts.{Counts}
 use Rattle.nodes.specs.Known.{Before, Known}
 use Rattle.nametable.specs.Tables.{NameKnown, SectionRead, NamesRead}
 use Rattle.sections.proofs.Places.{placed_kept}
-use Rattle.body.specs.declared.Reading.{Reading}
-use Rattle.body.specs.declared.Reading.TheVariants.{Good, Bad as Reading-Bad}
 use Rattle.body.specs.Tails.{after_exprs, after_types, after_names, Types, TypesAs, GivesTail}
 use Rattle.body.proofs.Sequel.{goes_on}
 use Rattle.file.specs.Reading.{ReadsAs, Reads}
@@ -42,7 +39,7 @@ short bytes h = go (ltb 65_535 (count bytes)) refl
     go true e = absurd (let i = ltb_true 65_535 (count bytes) e in let c = count-length bytes in omega arith)
     go false e = refl
 
-pub too_long : (bytes ns ix : List ℕ) → 65_535 < length bytes → Reads bytes ns ix (Reading-Bad (Limit 0))
+pub too_long : (bytes ns ix : List ℕ) → 65_535 < length bytes → Reads bytes ns ix (Err (Limit 0))
 unfolding M.read
 too_long bytes ns ix h = record { is = ap (λ (b : Bool). elim b [ true ↦ bad (limit 0) | false ↦ M.sections 0 bytes ]) (long bytes h) }
 
@@ -55,20 +52,20 @@ in_parts : (bytes : List ℕ) → length bytes ≤ 65_535 → M.read bytes ≡ o
 unfolding M.read M.sections section after_names after_types after_exprs from
 in_parts bytes h = ap (λ (b : Bool). elim b [ true ↦ bad (limit 0) | false ↦ M.sections 0 bytes ]) (short bytes h)
 
-pub count_bad : (bytes ns ix : List ℕ) → length bytes ≤ 65_535 → (e : Refusal) → IsCount 1_024 bytes 0 (Count-Bad e) → Reads bytes ns ix (Reading-Bad e)
+pub count_bad : (bytes ns ix : List ℕ) → length bytes ≤ 65_535 → (e : Refusal) → IsCount 1_024 bytes 0 (Err e) → Reads bytes ns ix (Err e)
 count_bad bytes ns ix small e c = record { is = in_parts bytes small ∙ stops _ _ _ (stops (counted 1_024 0 (from 0 bytes)) _ _ c.is) }
 
 module _ (bytes ns' ix ix₁ ix' : List ℕ) (small : length bytes ≤ 65_535) where
-  module _ (a : ℕ) (c : IsCount 1_024 bytes 0 (Is a)) where
+  module _ (a : ℕ) (c : IsCount 1_024 bytes 0 (Ok a)) where
     counted_first : (o : Read (List Name)) → items M.name_entry a [] 2 (from 2 bytes) ≡ o → M.read bytes ≡ onward o (λ ns. after_names (start ns))
     counted_first o e = in_parts bytes small ∙ ap (λ q. onward q (λ ns. after_names (start ns))) (goes_on (counted 1_024 0 (from 0 bytes)) _ a 2 _ c.is.0 ∙ e)
 
-    pub names_bad : (e : Refusal) → NamesRead bytes ix ns' ix₁ 2 a (Bad e) → Reads bytes ns' ix' (Reading-Bad e)
+    pub names_bad : (e : Refusal) → NamesRead bytes ix ns' ix₁ 2 a (Err e) → Reads bytes ns' ix' (Err e)
     names_bad e g = record { is = counted_first (bad (refusal_of [] [] e)) g.is ∙ stops (bad (refusal_of [] [] e)) _ _ refl }
 
     -- What the rest of the file may know of the names.
     abbrev counts : Counts
-    counts = record { names = a; types = 0; exprs = 0 }
+    counts = record { names = a; types = 0; exprs = 0; decls = 0 }
 
     known : (q : ℕ) (g : SectionRead bytes ix ns' ix₁ 2 a q) → Known ix₁ counts (start g.list)
     unfolding count
@@ -92,16 +89,16 @@ module _ (bytes ns' ix ix₁ ix' : List ℕ) (small : length bytes ≤ 65_535) w
         ∙ goes_on _ _ t.rest.exprs t.rest.end _ t.rest.read
         ∙ goes_on _ _ t.rest.rest.decls (length bytes) _ t.rest.rest.read
 
-    pub names_on : (q : ℕ) (r : Reading) → NamesRead bytes ix ns' ix₁ 2 a (Next q) → GivesTail TypesAs 2_048 bytes ix₁ ix' counts q r → Reads bytes ns' ix' r
+    pub names_on : (q : ℕ) (r : Result Counts Refusal) → NamesRead bytes ix ns' ix₁ 2 a (Ok q) → GivesTail TypesAs 2_048 bytes ix₁ ix' counts q r → Reads bytes ns' ix' r
     names_on q r g h = record { is = go r (h.is (start g.is.list) (known q g.is)) }
       where
         whole : M.read bytes ≡ after_names (start g.is.list) q (from q bytes)
         whole = counted_first (got g.is.list q (from q bytes)) g.is.is ∙ goes_on (got g.is.list q (from q bytes)) (λ ns. after_names (start ns)) g.is.list q (from q bytes) refl
 
-        go : (r : Reading) → TypesAs bytes ix' counts (start g.is.list) q r → ReadsAs bytes ns' ix' r
-        go (Good a₁ b c₁ d) t = (
+        go : (r : Result Counts Refusal) → TypesAs bytes ix' counts (start g.is.list) q r → ReadsAs bytes ns' ix' r
+        go (Ok m) t = (
           record { names = g.is.list; types = t.1.types; exprs = t.1.rest.exprs; decls = t.1.rest.rest.decls },
-          whole ∙ rest_read (start g.is.list) q b c₁ d t.1,
+          whole ∙ rest_read (start g.is.list) q m.types m.exprs m.decls t.1,
           record {
             names_many = g.is.many ∙ sym t.0;
             types_many = t.1.many;
@@ -117,4 +114,4 @@ module _ (bytes ns' ix ix₁ ix' : List ℕ) (small : length bytes ≤ 65_535) w
             decls = record { start = t.1.rest.end + 2; end = length bytes; placed = t.1.rest.rest.placed };
           },
         )
-        go (Reading-Bad e) t = whole ∙ t
+        go (Err e) t = whole ∙ t

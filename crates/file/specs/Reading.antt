@@ -1,17 +1,17 @@
 -- A session file read: its names, types, expressions and declarations, each where the index says; or the refusal.
-use Rattle.std.specs.Prelude.{◌≡◌, List, [], ℕ, ◌<◌, length, get_or}
+use Rattle.std.specs.Prelude.{◌≡◌, List, [], ℕ, ◌<◌, length, get_or, Result, Ok, Err}
 use Rattle.std.proofs.Math.Option.{some}
 use Rattle.meaning.specs.Base.{count, nth}
 use Rattle.meaning.specs.Ast.{Name}
 use Rattle.meaning.specs.Reader.{got, bad, Reader, from}
 use Rattle.meaning.specs.File as M
 use Rattle.errors.specs.Refusals.{refusal_of}
+use Rattle.errors.specs.declared.Refusal.{Refusal}
 use Rattle.names.specs.Names.{Names, name_of}
 use Rattle.rows.specs.BuiltIns.{BuiltIns}
 use Rattle.nametable.specs.Tables.{NameKnown}
 use Rattle.reader.specs.Placing.{upto, Placed}
-use Rattle.body.specs.declared.Reading as Code
-use Rattle.body.specs.declared.Reading.TheVariants.{Good, Bad}
+use Rattle.nodes.specs.declared.Counts.{Counts}
 
 -- The items of a section, one after the other from a place on, each at its word of the index.
 pub record Places {A : Type 0} (bytes ix : List ℕ) (base : ℕ) (r : List A → Reader A) (xs : List A) : Type 0 where
@@ -35,12 +35,12 @@ pub record Indexed (bytes ns ix : List ℕ) (f : M.File) (a b c d : ℕ) : Type 
   pub decls : Places bytes ix 10_240 (λ earlier. M.decl_entry f.names f.types f.exprs) f.decls
 
 -- What the definition reads, whole.
-abbrev pub ReadsAs : List ℕ → List ℕ → List ℕ → Code.Reading → Type 0
-ReadsAs bytes ns ix (Good a b c d) = (f : M.File) × (M.read bytes ≡ got f (length bytes) []) × Indexed bytes ns ix f a b c d
-ReadsAs bytes ns ix (Bad e) = M.read bytes ≡ bad (refusal_of [] [] e)
+abbrev pub ReadsAs : List ℕ → List ℕ → List ℕ → Result Counts Refusal → Type 0
+ReadsAs bytes ns ix (Ok m) = (f : M.File) × (M.read bytes ≡ got f (length bytes) []) × Indexed bytes ns ix f m.names m.types m.exprs m.decls
+ReadsAs bytes ns ix (Err e) = M.read bytes ≡ bad (refusal_of [] [] e)
 
 -- The answer to a file's bytes, with the names table and the index as they are left.
-pub record Reads (bytes ns ix : List ℕ) (r : Code.Reading) : Type 0 where
+pub record Reads (bytes ns ix : List ℕ) (r : Result Counts Refusal) : Type 0 where
   pub is : ReadsAs bytes ns ix r
 
 -- A number r of a name: in the table of a file that is read it is the number of the file's i-th name, one of its rows.

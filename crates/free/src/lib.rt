@@ -1,7 +1,7 @@
 // Free variables of 002, collected into lists of the table of nodes: each once, the last one found in front.
 #![tactic(auto)]
 
-ghost use Rattle.std.specs.Prelude.{List, [], ◌++◌, ◌*◌, ◌≤◌, length};
+ghost use Rattle.std.specs.Prelude.{◌≡◌, List, [], ◌++◌, ◌*◌, ◌≤◌, length};
 ghost use Rattle.meaning.specs.Ast.{qual};
 ghost use Rattle.meaning.specs.Subst.{ftv_type, ftv_preds, ftv_qual, ftv_scheme};
 ghost use Rattle.names.specs.Names.{tyvar_of};
@@ -11,82 +11,59 @@ ghost use Rattle.subst.specs.Preds.{preds_of_word};
 ghost use Rattle.subst.specs.Schemes.{scheme_of_word};
 ghost use Rattle.free.specs.Free.{add_but, free_type, free_types, Wants, Collects};
 
-use ast::{Cell, Shape};
-
-// A list of variables, and the first free node after it.
-#[derive(Clone, Copy)]
-pub struct Vars {
-    pub list: usize,
-    pub top: usize,
-}
+use ast::{Base, Cell, Room, Shape};
+use subst::Scheme;
 
 // The variable of word x before those of the list out, unless it is there or one of the list vs.
-fn add_but(
-    base: &[u64],
-    work: &mut [u64],
-    names: &[u64],
-    top: usize,
-    vs: usize,
-    out: usize,
-    x: usize,
-) -> Vars
-    requires base_len_bound { length base.now ≤ 4 * top }
-    requires node { Node (base.now ++ work.old) top vs }
-    requires node_2 { Node (base.now ++ work.old) top out }
-    requires node_3 { Node (base.now ++ work.old) top x }
-    requires wants { Wants names.now (base.now ++ work.old) top (vars_of_word names.now (base.now ++ work.old) out)
-        (add_but (vars_of_word names.now (base.now ++ work.old) vs) (tyvar_of names.now x) (vars_of_word names.now (base.now ++ work.old) out)) }
-    ensures { Collects names.now (base.now ++ work.old) (base.now ++ work.new) top
-        (vars_of_word names.now (base.now ++ work.old) out)
-        (add_but (vars_of_word names.now (base.now ++ work.old) vs) (tyvar_of names.now x) (vars_of_word names.now (base.now ++ work.old) out)) result.list result.top }
+fn add_but(base: Base, work: &mut [u64], room: &mut Room, vs: usize, out: usize, x: usize) -> usize
+    requires base_len_bound { length base.words.now ≤ 4 * room.old.top }
+    requires node { Node (base.words.now ++ work.old) room.old.top vs }
+    requires node_2 { Node (base.words.now ++ work.old) room.old.top out }
+    requires node_3 { Node (base.words.now ++ work.old) room.old.top x }
+    requires wants { Wants base.names.now (base.words.now ++ work.old) room.old.top (vars_of_word base.names.now (base.words.now ++ work.old) out)
+        (add_but (vars_of_word base.names.now (base.words.now ++ work.old) vs) (tyvar_of base.names.now x) (vars_of_word base.names.now (base.words.now ++ work.old) out)) }
+    ensures collects { Collects base.entry.names.now (base.entry.words.now ++ work.old) (base.entry.words.now ++ work.new) room.old.top
+        (vars_of_word base.entry.names.now (base.entry.words.now ++ work.old) out)
+        (add_but (vars_of_word base.entry.names.now (base.entry.words.now ++ work.old) vs) (tyvar_of base.entry.names.now x) (vars_of_word base.entry.names.now (base.entry.words.now ++ work.old) out)) result room.new.top }
+    ensures left { room.new.left ≡ room.old.left }
 {
-    if vars::has_var(base, work, names, top, vs, x) {
-        return Vars {
-            list: out,
-            top: top,
-        };
+    if vars::has_var(base, work, room.top, vs, x) {
+        return out;
     }
-    if vars::has_var(base, work, names, top, out, x) {
-        return Vars {
-            list: out,
-            top: top,
-        };
+    if vars::has_var(base, work, room.top, out, x) {
+        return out;
     }
-    ast::push(base, work, top, 3, x, out);
-    Vars {
-        list: names::NODE + top,
-        top: top + 1,
-    }
+    ast::add(base, work, room, ast::CONS, x, out)
 }
 
 // The variables of the type t before those of the list out; those of the list vs are passed over.
 #[cycle(free_type_free_types)]
 fn free_type(
-    base: &[u64],
+    base: Base,
     work: &mut [u64],
-    names: &[u64],
-    top: usize,
+    room: &mut Room,
     vs: usize,
     out: usize,
     t: usize,
-) -> Vars
-    requires base_len_bound { length base.now ≤ 4 * top }
-    requires node { Node (base.now ++ work.old) top vs }
-    requires node_2 { Node (base.now ++ work.old) top out }
-    requires node_3 { Node (base.now ++ work.old) top t }
-    requires wants { Wants names.now (base.now ++ work.old) top (vars_of_word names.now (base.now ++ work.old) out)
-        (free_type (vars_of_word names.now (base.now ++ work.old) vs) (tree names.now (base.now ++ work.old) t) (vars_of_word names.now (base.now ++ work.old) out)) }
-    ensures { Collects names.now (base.now ++ work.old) (base.now ++ work.new) top
-        (vars_of_word names.now (base.now ++ work.old) out)
-        (free_type (vars_of_word names.now (base.now ++ work.old) vs) (tree names.now (base.now ++ work.old) t) (vars_of_word names.now (base.now ++ work.old) out)) result.list result.top }
+) -> usize
+    requires base_len_bound { length base.words.now ≤ 4 * room.old.top }
+    requires node { Node (base.words.now ++ work.old) room.old.top vs }
+    requires node_2 { Node (base.words.now ++ work.old) room.old.top out }
+    requires node_3 { Node (base.words.now ++ work.old) room.old.top t }
+    requires wants { Wants base.names.now (base.words.now ++ work.old) room.old.top (vars_of_word base.names.now (base.words.now ++ work.old) out)
+        (free_type (vars_of_word base.names.now (base.words.now ++ work.old) vs) (tree base.names.now (base.words.now ++ work.old) t) (vars_of_word base.names.now (base.words.now ++ work.old) out)) }
+    ensures collects { Collects base.entry.names.now (base.entry.words.now ++ work.old) (base.entry.words.now ++ work.new) room.old.top
+        (vars_of_word base.entry.names.now (base.entry.words.now ++ work.old) out)
+        (free_type (vars_of_word base.entry.names.now (base.entry.words.now ++ work.old) vs) (tree base.entry.names.now (base.entry.words.now ++ work.old) t) (vars_of_word base.entry.names.now (base.entry.words.now ++ work.old) out)) result room.new.top }
+    ensures left { room.new.left ≡ room.old.left }
 {
     let s = ast::shape_at(base, work, t);
     match s {
-        Shape::Var(x) => add_but(base, work, names, top, vs, out, x),
-        Shape::Con(_, l) => free_types(base, work, names, top, vs, out, l),
+        Shape::Var(x) => add_but(base, work, room, vs, out, x),
+        Shape::Con(_, l) => free_types(base, work, room, vs, out, l),
         Shape::Arrow(a, b) => {
-            let r = free_type(base, work, names, top, vs, out, a);
-            free_type(base, work, names, r.top, vs, r.list, b)
+            let r = free_type(base, work, room, vs, out, a);
+            free_type(base, work, room, vs, r, b)
         }
     }
 }
@@ -94,116 +71,93 @@ fn free_type(
 // The variables of the types of the list l before those of the list out; those of the list vs are passed over.
 #[cycle(free_type_free_types)]
 fn free_types(
-    base: &[u64],
+    base: Base,
     work: &mut [u64],
-    names: &[u64],
-    top: usize,
+    room: &mut Room,
     vs: usize,
     out: usize,
     l: usize,
-) -> Vars
-    requires base_len_bound { length base.now ≤ 4 * top }
-    requires node { Node (base.now ++ work.old) top vs }
-    requires node_2 { Node (base.now ++ work.old) top out }
-    requires node_3 { Node (base.now ++ work.old) top l }
-    requires wants { Wants names.now (base.now ++ work.old) top (vars_of_word names.now (base.now ++ work.old) out)
-        (free_types (vars_of_word names.now (base.now ++ work.old) vs) (list names.now (base.now ++ work.old) l) (vars_of_word names.now (base.now ++ work.old) out)) }
-    ensures { Collects names.now (base.now ++ work.old) (base.now ++ work.new) top
-        (vars_of_word names.now (base.now ++ work.old) out)
-        (free_types (vars_of_word names.now (base.now ++ work.old) vs) (list names.now (base.now ++ work.old) l) (vars_of_word names.now (base.now ++ work.old) out)) result.list result.top }
+) -> usize
+    requires base_len_bound { length base.words.now ≤ 4 * room.old.top }
+    requires node { Node (base.words.now ++ work.old) room.old.top vs }
+    requires node_2 { Node (base.words.now ++ work.old) room.old.top out }
+    requires node_3 { Node (base.words.now ++ work.old) room.old.top l }
+    requires wants { Wants base.names.now (base.words.now ++ work.old) room.old.top (vars_of_word base.names.now (base.words.now ++ work.old) out)
+        (free_types (vars_of_word base.names.now (base.words.now ++ work.old) vs) (list base.names.now (base.words.now ++ work.old) l) (vars_of_word base.names.now (base.words.now ++ work.old) out)) }
+    ensures collects { Collects base.entry.names.now (base.entry.words.now ++ work.old) (base.entry.words.now ++ work.new) room.old.top
+        (vars_of_word base.entry.names.now (base.entry.words.now ++ work.old) out)
+        (free_types (vars_of_word base.entry.names.now (base.entry.words.now ++ work.old) vs) (list base.entry.names.now (base.entry.words.now ++ work.old) l) (vars_of_word base.entry.names.now (base.entry.words.now ++ work.old) out)) result room.new.top }
+    ensures left { room.new.left ≡ room.old.left }
 {
     let c = ast::cell_at(base, work, l);
     match c {
-        Cell::Nil => Vars {
-            list: out,
-            top: top,
-        },
+        Cell::Nil => out,
         Cell::Cons(a, b) => {
-            let r = free_type(base, work, names, top, vs, out, a);
-            free_types(base, work, names, r.top, vs, r.list, b)
+            let r = free_type(base, work, room, vs, out, a);
+            free_types(base, work, room, vs, r, b)
         }
     }
 }
 
 // `ftv_type`: the variables of the type t before those of the list out.
-pub fn ftv_type(
-    base: &[u64],
-    work: &mut [u64],
-    names: &[u64],
-    top: usize,
-    out: usize,
-    t: usize,
-) -> Vars
-    requires base_len_bound { length base.now ≤ 4 * top }
-    requires node { Node (base.now ++ work.old) top out }
-    requires node_2 { Node (base.now ++ work.old) top t }
-    requires wants { Wants names.now (base.now ++ work.old) top (vars_of_word names.now (base.now ++ work.old) out)
-        (ftv_type (tree names.now (base.now ++ work.old) t) (vars_of_word names.now (base.now ++ work.old) out)) }
-    ensures { Collects names.now (base.now ++ work.old) (base.now ++ work.new) top
-        (vars_of_word names.now (base.now ++ work.old) out)
-        (ftv_type (tree names.now (base.now ++ work.old) t) (vars_of_word names.now (base.now ++ work.old) out)) result.list result.top }
+pub fn ftv_type(base: Base, work: &mut [u64], room: &mut Room, out: usize, t: usize) -> usize
+    requires base_len_bound { length base.words.now ≤ 4 * room.old.top }
+    requires node { Node (base.words.now ++ work.old) room.old.top out }
+    requires node_2 { Node (base.words.now ++ work.old) room.old.top t }
+    requires wants { Wants base.names.now (base.words.now ++ work.old) room.old.top (vars_of_word base.names.now (base.words.now ++ work.old) out)
+        (ftv_type (tree base.names.now (base.words.now ++ work.old) t) (vars_of_word base.names.now (base.words.now ++ work.old) out)) }
+    ensures collects { Collects base.entry.names.now (base.entry.words.now ++ work.old) (base.entry.words.now ++ work.new) room.old.top
+        (vars_of_word base.entry.names.now (base.entry.words.now ++ work.old) out)
+        (ftv_type (tree base.entry.names.now (base.entry.words.now ++ work.old) t) (vars_of_word base.entry.names.now (base.entry.words.now ++ work.old) out)) result room.new.top }
+    ensures left { room.new.left ≡ room.old.left }
 {
-    free_type(base, work, names, top, ast::NIL, out, t)
+    free_type(base, work, room, ast::NIL, out, t)
 }
 
 // `ftv_pred` of each predicate of the list l, before the variables of the list out. Its cells are those of a list of types.
-pub fn ftv_preds(
-    base: &[u64],
-    work: &mut [u64],
-    names: &[u64],
-    top: usize,
-    out: usize,
-    l: usize,
-) -> Vars
-    requires base_len_bound { length base.now ≤ 4 * top }
-    requires node { Node (base.now ++ work.old) top out }
-    requires node_2 { Node (base.now ++ work.old) top l }
-    requires wants { Wants names.now (base.now ++ work.old) top (vars_of_word names.now (base.now ++ work.old) out)
-        (ftv_preds (preds_of_word names.now (base.now ++ work.old) l) (vars_of_word names.now (base.now ++ work.old) out)) }
-    ensures { Collects names.now (base.now ++ work.old) (base.now ++ work.new) top
-        (vars_of_word names.now (base.now ++ work.old) out)
-        (ftv_preds (preds_of_word names.now (base.now ++ work.old) l) (vars_of_word names.now (base.now ++ work.old) out)) result.list result.top }
+pub fn ftv_preds(base: Base, work: &mut [u64], room: &mut Room, out: usize, l: usize) -> usize
+    requires base_len_bound { length base.words.now ≤ 4 * room.old.top }
+    requires node { Node (base.words.now ++ work.old) room.old.top out }
+    requires node_2 { Node (base.words.now ++ work.old) room.old.top l }
+    requires wants { Wants base.names.now (base.words.now ++ work.old) room.old.top (vars_of_word base.names.now (base.words.now ++ work.old) out)
+        (ftv_preds (preds_of_word base.names.now (base.words.now ++ work.old) l) (vars_of_word base.names.now (base.words.now ++ work.old) out)) }
+    ensures collects { Collects base.entry.names.now (base.entry.words.now ++ work.old) (base.entry.words.now ++ work.new) room.old.top
+        (vars_of_word base.entry.names.now (base.entry.words.now ++ work.old) out)
+        (ftv_preds (preds_of_word base.entry.names.now (base.entry.words.now ++ work.old) l) (vars_of_word base.entry.names.now (base.entry.words.now ++ work.old) out)) result room.new.top }
+    ensures left { room.new.left ≡ room.old.left }
 {
-    free_types(base, work, names, top, ast::NIL, out, l)
+    free_types(base, work, room, ast::NIL, out, l)
 }
 
 // `ftv_scheme`: the variables of a type and of predicates that are none of the list vs.
-pub fn ftv_scheme(
-    base: &[u64],
-    work: &mut [u64],
-    names: &[u64],
-    top: usize,
-    vs: usize,
-    preds: usize,
-    t: usize,
-) -> Vars
-    requires base_len_bound { length base.now ≤ 4 * top }
-    requires node { Node (base.now ++ work.old) top vs }
-    requires node_2 { Node (base.now ++ work.old) top preds }
-    requires node_3 { Node (base.now ++ work.old) top t }
-    requires wants { Wants names.now (base.now ++ work.old) top [] (ftv_scheme (scheme_of_word names.now (base.now ++ work.old) vs preds t)) }
-    ensures { Collects names.now (base.now ++ work.old) (base.now ++ work.new) top
-        [] (ftv_scheme (scheme_of_word names.now (base.now ++ work.old) vs preds t)) result.list result.top }
+pub fn ftv_scheme(base: Base, work: &mut [u64], room: &mut Room, scheme: Scheme) -> usize
+    requires base_len_bound { length base.words.now ≤ 4 * room.old.top }
+    requires node { Node (base.words.now ++ work.old) room.old.top scheme.vars }
+    requires node_2 { Node (base.words.now ++ work.old) room.old.top scheme.preds }
+    requires node_3 { Node (base.words.now ++ work.old) room.old.top scheme.ty }
+    requires wants { Wants base.names.now (base.words.now ++ work.old) room.old.top [] (ftv_scheme (scheme_of_word base.names.now (base.words.now ++ work.old) scheme.vars scheme.preds scheme.ty)) }
+    ensures collects { Collects base.entry.names.now (base.entry.words.now ++ work.old) (base.entry.words.now ++ work.new) room.old.top
+        [] (ftv_scheme (scheme_of_word base.entry.names.now (base.entry.words.now ++ work.old) scheme.vars scheme.preds scheme.ty)) result room.new.top }
+    ensures left { room.new.left ≡ room.old.left }
 {
-    let r = free_type(base, work, names, top, vs, ast::NIL, t);
-    free_types(base, work, names, r.top, vs, r.list, preds)
+    let r = free_type(base, work, room, scheme.vars, ast::NIL, scheme.ty);
+    free_types(base, work, room, scheme.vars, r, scheme.preds)
 }
 
 // `ftv_qual`: the variables of a type and of predicates.
-pub fn ftv_qual(
-    base: &[u64],
-    work: &mut [u64],
-    names: &[u64],
-    top: usize,
-    preds: usize,
-    t: usize,
-) -> Vars
-    requires base_len_bound { length base.now ≤ 4 * top }
-    requires node { Node (base.now ++ work.old) top preds }
-    requires node_2 { Node (base.now ++ work.old) top t }
-    requires wants { Wants names.now (base.now ++ work.old) top [] (ftv_qual (qual (preds_of_word names.now (base.now ++ work.old) preds) (tree names.now (base.now ++ work.old) t))) }
-    ensures { Collects names.now (base.now ++ work.old) (base.now ++ work.new) top
-        [] (ftv_qual (qual (preds_of_word names.now (base.now ++ work.old) preds) (tree names.now (base.now ++ work.old) t))) result.list result.top }
+pub fn ftv_qual(base: Base, work: &mut [u64], room: &mut Room, preds: usize, t: usize) -> usize
+    requires base_len_bound { length base.words.now ≤ 4 * room.old.top }
+    requires node { Node (base.words.now ++ work.old) room.old.top preds }
+    requires node_2 { Node (base.words.now ++ work.old) room.old.top t }
+    requires wants { Wants base.names.now (base.words.now ++ work.old) room.old.top [] (ftv_qual (qual (preds_of_word base.names.now (base.words.now ++ work.old) preds) (tree base.names.now (base.words.now ++ work.old) t))) }
+    ensures collects { Collects base.entry.names.now (base.entry.words.now ++ work.old) (base.entry.words.now ++ work.new) room.old.top
+        [] (ftv_qual (qual (preds_of_word base.entry.names.now (base.entry.words.now ++ work.old) preds) (tree base.entry.names.now (base.entry.words.now ++ work.old) t))) result room.new.top }
+    ensures left { room.new.left ≡ room.old.left }
 {
-    ftv_scheme(base, work, names, top, ast::NIL, preds, t)
+    let scheme = Scheme {
+        vars: ast::NIL,
+        preds,
+        ty: t,
+    };
+    ftv_scheme(base, work, room, scheme)
 }

@@ -25,13 +25,13 @@ use Rattle.canonical.specs.Named.{bound}
 use Rattle.canonical.proofs.Fewer.{bound_all}
 use Rattle.settle.specs.Settles.{finalized}
 use Rattle.settle.specs.Answers.{settled_out, SettledIn, GivesSettled}
-use Rattle.settle.specs.declared.Settled.{Settled}
-use Rattle.settle.specs.declared.Settled.TheVariants.{Done as Settled-Done, Refused as Settled-Refused}
+use Rattle.settle.specs.Settled.{Settled}
+use Rattle.settle.specs.Settled.{Done as Settled-Done, Refused as Settled-Refused}
 use Rattle.settle.proofs.Halves.{finalize_is}
 use Rattle.settle.proofs.Uses.{settled_out_alone}
-use Rattle.generalize.specs.declared.naming.Named.{Named}
-use Rattle.generalize.specs.declared.naming.Named.TheVariants.{Done as Named-Done, Refused as Named-Refused}
-use Rattle.generalize.specs.declared.Finalized.TheVariants.{Done as Finalized-Done, Refused as Finalized-Refused}
+use Rattle.generalize.specs.Named.{Named}
+use Rattle.generalize.specs.Named.{Done as Named-Done, Refused as Named-Refused}
+use Rattle.generalize.specs.Finalized.{Done as Finalized-Done, Refused as Finalized-Refused}
 use Rattle.generalize.specs.Naming.{Unnamed, GivesNamed, GivesNames}
 use Rattle.generalize.specs.Generalizes.{ReadyFrom, GivesNamesFrom, ReadyGeneralize, Known, finalized_out, GivesFinalized}
 use Rattle.generalize.proofs.Kept.{fit_made, kept_fit}

@@ -29,14 +29,14 @@ use Rattle.scope.proofs.Laws.{scope_kept, env_kept}
 use Rattle.pending.specs.Rows.{PendingRow}
 use Rattle.settle.specs.Settles.{generalized}
 use Rattle.settle.specs.Answers.{OwnRow, settled_out, SettledIn, GivesSettled}
-use Rattle.settle.specs.declared.Settled.{Settled}
-use Rattle.settle.specs.declared.Settled.TheVariants.{Done as Settled-Done, Refused as Settled-Refused}
+use Rattle.settle.specs.Settled.{Settled}
+use Rattle.settle.specs.Settled.{Done as Settled-Done, Refused as Settled-Refused}
 use Rattle.settle.proofs.Halves.{generalize_is}
 use Rattle.settle.proofs.Parts.{part_row, part_long}
 use Rattle.settle.proofs.Course.{rows_shift}
-use Rattle.generalize.specs.declared.naming.Named.{Named}
-use Rattle.generalize.specs.declared.naming.Named.TheVariants.{Done as Named-Done, Refused as Named-Refused}
-use Rattle.generalize.specs.declared.Generalized.TheVariants.{Done as Generalized-Done, Refused as Generalized-Refused}
+use Rattle.generalize.specs.Named.{Named}
+use Rattle.generalize.specs.Named.{Done as Named-Done, Refused as Named-Refused}
+use Rattle.generalize.specs.Generalized.{Done as Generalized-Done, Refused as Generalized-Refused}
 use Rattle.generalize.specs.Naming.{ReadyNames, GivesNamed}
 use Rattle.generalize.specs.Generalizes.{LeftOver, concluded_for, GivesConcluded, ReadyFrom, GivesFrom, ReadyGeneralize, Known, generalized_out, GivesGeneralized}
 use Rattle.generalize.proofs.Kept.{fit_made, fit_variable, kept_fit}

@@ -6,3 +6,4 @@ pub mod TestWays
 pub mod Kept
 pub mod FromWays
 pub mod FinalWays
+pub mod Seen

@@ -23,12 +23,12 @@ use Rattle.errors.specs.Refusals.{Refuses}
 use Rattle.errors.specs.declared.Refusal.{Refusal}
 use Rattle.pairs.specs.Pairs.{Stands}
 use Rattle.pairs.proofs.Frames.{stands_then, stands_up}
-use Rattle.apply.specs.declared.Applied.{Applied}
-use Rattle.apply.specs.declared.Applied.TheVariants.{Done as Made, Refused as Not-made}
+use Rattle.apply.specs.Applied.{Applied}
+use Rattle.apply.specs.Applied.{Done as Made, Refused as Not-made}
 use Rattle.apply.proofs.Hand.{Then, then_done, refuse_on, refuse_same}
 use Rattle.subst.specs.Schemes.{scheme_of_word}
-use Rattle.subst.specs.declared.AppliedQual.{AppliedQual}
-use Rattle.subst.specs.declared.AppliedQual.TheVariants.{Done, Refused}
+use Rattle.subst.specs.AppliedQual.{AppliedQual}
+use Rattle.subst.specs.AppliedQual.{Done, Refused}
 use Rattle.subst.proofs.PredLaws.{kept_preds}
 use Rattle.supers.specs.Rows.{binders_in}
 use Rattle.supers.proofs.RowLaws.{kept_rows}
@@ -47,7 +47,7 @@ use Rattle.canonical.proofs.Fewer.{bound_few}
 use Rattle.canonical.proofs.Images.{env_vars_made, new-names}
 use Rattle.canoncore.specs.Lettered as letter
 use Rattle.canoncore.specs.RowsReady as rows
-use Rattle.generalize.specs.declared.naming.Named.TheVariants.{Done as Named-Done, Refused as Named-Refused}
+use Rattle.generalize.specs.Named.{Done as Named-Done, Refused as Named-Refused}
 use Rattle.generalize.specs.Naming.{ReadyNames, Stays, ReadyLetters, Chosen, canonical, NamesQual, GivesLettered, GivesNames}
 use Rattle.generalize.proofs.Again.{canonical_stays}
 use Rattle.generalize.proofs.QualWays.{own_binders, own_small, own_kept, take_few, renames_any}

@@ -14,8 +14,8 @@ use Rattle.errors.specs.Refusals.{Refuses}
 use Rattle.errors.specs.declared.Refusal.{Refusal}
 use Rattle.pairs.specs.Pairs.{Stands}
 use Rattle.pairs.proofs.Frames.{stands_then, stands_up}
-use Rattle.apply.specs.declared.Applied.{Applied}
-use Rattle.apply.specs.declared.Applied.TheVariants.{Done as Made, Refused as Not-made}
+use Rattle.apply.specs.Applied.{Applied}
+use Rattle.apply.specs.Applied.{Done as Made, Refused as Not-made}
 use Rattle.apply.proofs.Hand.{Then, then_done, refuse_on}
 use Rattle.subst.specs.Preds.{preds_of_word}
 use Rattle.subst.proofs.PredLaws.{kept_preds}
@@ -33,7 +33,7 @@ use Rattle.canonical.proofs.Chosen.{no_place}
 use Rattle.canonical.proofs.SameLeaves.{type_leaves, rows_leaves}
 use Rattle.canoncore.specs.RowsReady.{SmallRow}
 use Rattle.settle.specs.Answers.{OwnRow}
-use Rattle.subst.specs.declared.AppliedQual.TheVariants.{Done, Refused}
+use Rattle.subst.specs.AppliedQual.{Done, Refused}
 use Rattle.generalize.specs.Naming.{OwnRows, ReadyLetters, GivesLettered}
 use Rattle.generalize.proofs.Again.{renamed_again}
 use Rattle.generalize.proofs.Smallness.{SmallBinders, preds_small, rows_small, small_rows, renamed_small, renamed_smalls}

@@ -29,11 +29,11 @@ use Rattle.supers.proofs.RowLaws.{row_step, rows_end}
 use Rattle.scope.specs.Scope.{env_of}
 use Rattle.pending.proofs.Owns.{type_has}
 use Rattle.canonical.specs.Named.{rows_qual}
-use Rattle.generalize.specs.declared.clear.Clear.{Clear}
-use Rattle.generalize.specs.declared.clear.Clear.TheVariants.{All, First}
-use Rattle.generalize.specs.declared.naming.Named.{Named}
-use Rattle.generalize.specs.declared.naming.Named.TheVariants.{Done as Named-Done, Refused as Named-Refused}
-use Rattle.generalize.specs.Tested.{strays, stray_pred, stray_row, clear_of, Tests}
+use Rattle.std.specs.Prelude.{Result, Ok, Err}
+use Rattle.errors.specs.declared.Refusal.{Refusal}
+use Rattle.generalize.specs.Named.{Named}
+use Rattle.generalize.specs.Named.{Done as Named-Done, Refused as Named-Refused}
+use Rattle.generalize.specs.Tested.{strays, stray_pred, stray_row, refusing, Tests}
 use Rattle.generalize.specs.Naming.{Unnamed, named_out, NamedAs, GivesNames}
 use Rattle.generalize.specs.Generalizes.{AllVariable, Left, concluded_out, GivesConcluded}
 
@@ -76,11 +76,11 @@ module _ (bs : List ℕ) (i : ℕ) {q : Row} (ns w : List ℕ) (fs es : List TyV
 
 -- ## `row_of`
 -- A pending row.
-pub row_first : (bs : List ℕ) (i : ℕ) {d c u : ℕ} {q : Row} → q ≡ row_at bs i → q ≡ Pending d c u → First c u ≡ clear_of (row_at bs i)
+pub row_first : (bs : List ℕ) (i : ℕ) {d c u : ℕ} {q : Row} → q ≡ row_at bs i → q ≡ Pending d c u → Err (Ambiguous c u) ≡ refusing (row_at bs i)
 row_first bs i e h = rw (sym e ∙ h) refl
 
 -- One that was replaced.
-pub row_none : (bs : List ℕ) (i : ℕ) {d x : ℕ} {q : Row} → q ≡ row_at bs i → q ≡ Replaced d x → All ≡ clear_of (row_at bs i)
+pub row_none : (bs : List ℕ) (i : ℕ) {d x : ℕ} {q : Row} → q ≡ row_at bs i → q ≡ Replaced d x → Ok tt ≡ refusing (row_at bs i)
 row_none bs i e h = rw (sym e ∙ h) refl
 
 -- The type of a pending row is a word of the table.
@@ -102,7 +102,7 @@ testing fs es ns w bs n = record { under = omega arith; same = refl }
 
 module _ {fs es : List TyVar} {ns w bs : List ℕ} {n i : ℕ} (T : Testing fs es ns w bs n i) where
   -- There is none at all.
-  pub tested_all : {top : ℕ} → n ≤ i → Tests fs es ns w top (preds_of (binders_in ns w bs 0 n)) All
+  pub tested_all : {top : ℕ} → n ≤ i → Tests fs es ns w top (preds_of (binders_in ns w bs 0 n)) (Ok tt)
   unfolding first
   tested_all h = record { says = T.same ∙ rw (rows_end ns w bs i n h) refl }
 
@@ -117,13 +117,13 @@ module _ {fs es : List TyVar} {ns w bs : List ℕ} {n i : ℕ} (T : Testing fs e
         go (Replaced d x) e = refl
 
     -- Row i is one.
-    pub tested_found : {top : ℕ} → Binders w bs top n → true ≡ stray_row fs es ns w (row_at bs i) → Tests fs es ns w top (preds_of (binders_in ns w bs 0 n)) (clear_of (row_at bs i))
+    pub tested_found : {top : ℕ} → Binders w bs top n → true ≡ stray_row fs es ns w (row_at bs i) → Tests fs es ns w top (preds_of (binders_in ns w bs 0 n)) (refusing (row_at bs i))
     unfolding first
     tested_found {top} B e = go (row_at bs i) (T.same ∙ ap (λ (os : List Binder). first (stray_pred fs es) (preds_of os)) (row_step ns w bs i n h)) (B.types i h) e
       where
         go : (r : Row) → first (stray_pred fs es) (preds_of (binders_in ns w bs 0 n)) ≡ first (stray_pred fs es) (preds_of (with_row ns w r (binders_in ns w bs (suc i) n)))
-            → TypeIn w top r → true ≡ stray_row fs es ns w r → Tests fs es ns w top (preds_of (binders_in ns w bs 0 n)) (clear_of r)
-        go (Pending d c t) f N e = record { says = (f ∙ rw (sym e) refl, N) }
+            → TypeIn w top r → true ≡ stray_row fs es ns w r → Tests fs es ns w top (preds_of (binders_in ns w bs 0 n)) (refusing r)
+        go (Pending d c t) f N e = record { says = record { class = c; type = t; is = refl; found = f ∙ rw (sym e) refl; node = N } }
         go (Replaced d x) f N e = absurd (false≢true (sym e))
 
 -- ## the meaning
@@ -144,12 +144,12 @@ tests_same fs es (p ∷ ps) h = one p.ty h.0 (tests_same fs es ps h.1)
     one (arrow a b) e ih = absurd (false≢true e)
 
 -- ## `conclude`
-module _ (ns w ev od bs : List ℕ) (top n t left sp e : ℕ) {k : Clear}
+module _ (ns w ev od bs : List ℕ) (top n t left sp e : ℕ) {k : Result (Unit {0}) Refusal}
     (T : Tests (ftv_type (tree ns w t) []) (env_ftv (env_of ns w ev od)) ns w top (preds_of (binders_in ns w bs 0 n)) k) where
   -- None is ambiguous: what is named is the answer.
-  pub conclude_named : {w' : List ℕ} {r : Named} → k ≡ All → GivesNames ns w w' ev od bs top left sp n t e r → GivesConcluded ns w w' ev od bs top left sp n t e r
+  pub conclude_named : {w' : List ℕ} {r : Named} {u : Unit {0}} → k ≡ Ok u → GivesNames ns w w' ev od bs top left sp n t e r → GivesConcluded ns w w' ev od bs top left sp n t e r
   unfolding unless_ambiguous after
-  conclude_named {w'} {r} h G = record { stands = G.stands; answer = go r G.answer }
+  conclude_named {w'} {r} {u} h G = record { stands = G.stands; answer = go r G.answer }
     where
       same : Left ns w ev od bs n t → concluded_out ns w ev od bs n t e left ≡ named_out ns w ev od bs n t e left
       same L = rw (tests_same (ftv_type (tree ns w t) []) (env_ftv (env_of ns w ev od)) (preds_of (binders_in ns w bs 0 n)) L.variables ∙ (rw h at T.says)) refl
@@ -160,10 +160,10 @@ module _ (ns w ev od bs : List ℕ) (top n t left sp e : ℕ) {k : Clear}
       go (Named-Refused x m l) A = λ L. refuse_same (same L) (A L.unnamed) (omega arith) (omega arith)
 
   -- One is.
-  pub conclude_refused : {c u : ℕ} → k ≡ First c u → GivesConcluded ns w w ev od bs top left sp n t e (Named-Refused (Ambiguous c u) top left)
+  pub conclude_refused : {x : Refusal} → k ≡ Err x → GivesConcluded ns w w ev od bs top left sp n t e (Named-Refused x top left)
   unfolding unless_ambiguous after
-  conclude_refused h = let A = rw h at T.says in
-      record {
+  conclude_refused {x} h = let A = rw h at T.says in rw A.is
+      (record {
         stands = stands_refl w top sp;
-        answer = λ L. refuse_here (rw (tests_same (ftv_type (tree ns w t) []) (env_ftv (env_of ns w ev od)) (preds_of (binders_in ns w bs 0 n)) L.variables ∙ A.0) refl) A.1 (omega arith);
-      }
+        answer = λ L. refuse_here (rw (tests_same (ftv_type (tree ns w t) []) (env_ftv (env_of ns w ev od)) (preds_of (binders_in ns w bs 0 n)) L.variables ∙ A.found) refl) A.node (omega arith);
+      })

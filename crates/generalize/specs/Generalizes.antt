@@ -24,11 +24,11 @@ use Rattle.pending.specs.Rows.{PendingRows}
 use Rattle.canonical.specs.Named.{list_qual, bound}
 use Rattle.settle.specs.Answers.{ReadySettle, Asked, OwnRow}
 use Rattle.generalize.specs.Naming.{Unnamed, GivesNamed}
-use Rattle.generalize.specs.declared.naming.Named.{Named}
-use Rattle.generalize.specs.declared.Generalized.{Generalized}
-use Rattle.generalize.specs.declared.Generalized.TheVariants.{Done as Generalized-Done, Refused as Generalized-Refused}
-use Rattle.generalize.specs.declared.Finalized.{Finalized}
-use Rattle.generalize.specs.declared.Finalized.TheVariants.{Done as Finalized-Done, Refused as Finalized-Refused}
+use Rattle.generalize.specs.Named.{Named}
+use Rattle.generalize.specs.Generalized.{Generalized}
+use Rattle.generalize.specs.Generalized.{Done as Generalized-Done, Refused as Generalized-Refused}
+use Rattle.generalize.specs.Finalized.{Finalized}
+use Rattle.generalize.specs.Finalized.{Done as Finalized-Done, Refused as Finalized-Refused}
 
 -- What is asked to settle pending rows, and names that begin with the built-in ones.
 pub record ReadyGeneralize (ns w il ev od bs : List ℕ) (top left sp n t e : ℕ) : Type 0 where

@@ -12,8 +12,8 @@ use Rattle.errors.specs.Refusals.{Refuses}
 use Rattle.pairs.specs.Pairs.{Stands}
 use Rattle.subst.specs.Preds.{preds_of_word}
 use Rattle.subst.specs.Schemes.{scheme_of_word}
-use Rattle.subst.specs.declared.AppliedQual.{AppliedQual}
-use Rattle.subst.specs.declared.AppliedQual.TheVariants.{Done, Refused}
+use Rattle.subst.specs.AppliedQual.{AppliedQual}
+use Rattle.subst.specs.AppliedQual.{Done, Refused}
 use Rattle.scope.specs.Scope.{env_of, Scope, Smalls, Held}
 use Rattle.cores.specs.Terms.{core}
 use Rattle.supers.specs.Rows.{row_at, binders_in}
@@ -22,8 +22,8 @@ use Rattle.rename.specs.Renaming.{leaves}
 use Rattle.canonical.specs.Named.{rows_qual, list_qual, bound}
 use Rattle.canonical.specs.Rows.{leaves_preds, Letters}
 use Rattle.settle.specs.Answers.{OwnRow}
-use Rattle.generalize.specs.declared.naming.Named.{Named}
-use Rattle.generalize.specs.declared.naming.Named.TheVariants.{Done as Named-Done, Refused as Named-Refused}
+use Rattle.generalize.specs.Named.{Named}
+use Rattle.generalize.specs.Named.{Done as Named-Done, Refused as Named-Refused}
 
 -- ## What is asked
 

@@ -1,5 +1,5 @@
 -- The test for ambiguous predicates. The type of each predicate that is left is a variable.
-use Rattle.std.specs.Prelude.{◌≡◌, Bool, false, not, ◌&&◌, List, ℕ}
+use Rattle.std.specs.Prelude.{◌≡◌, Bool, false, not, ◌&&◌, List, ℕ, Result, Ok, Err}
 use Rattle.std.proofs.Math.Option.{none, some}
 use Rattle.meaning.specs.Base.{first}
 use Rattle.meaning.specs.Ast.{TyVar, Ty, var, con, arrow, Pred, pred}
@@ -8,8 +8,8 @@ use Rattle.names.specs.Names.{name_of}
 use Rattle.ast.specs.Table.{tree, Node}
 use Rattle.supers.specs.declared.rows.Row.{Row}
 use Rattle.supers.specs.declared.rows.Row.TheVariants.{Pending, Replaced}
-use Rattle.generalize.specs.declared.clear.Clear.{Clear}
-use Rattle.generalize.specs.declared.clear.Clear.TheVariants.{All, First}
+use Rattle.errors.specs.declared.Refusal.{Refusal}
+use Rattle.errors.specs.declared.Refusal.TheVariants.{Ambiguous}
 
 -- The type is a variable that neither the binding's type nor the environment has: fs are the variables of the one and es those
 -- of the other.
@@ -27,15 +27,23 @@ abbrev pub stray_row : List TyVar → List TyVar → List ℕ → List ℕ → R
 stray_row fs es ns w (Pending d c t) = strays fs es (tree ns w t)
 stray_row fs es ns w (Replaced d x) = false
 
--- The class and the type of a pending row.
-abbrev pub clear_of : Row → Clear
-clear_of (Pending d c t) = First c t
-clear_of (Replaced d x) = All
+-- A pending row is refused, with its class and its type.
+abbrev pub refusing : Row → Result (Unit {0}) Refusal
+refusing (Pending d c t) = Err (Ambiguous c t)
+refusing (Replaced d x) = Ok tt
 
--- None of some predicates is ambiguous, or the first one that is has class c and type t.
-abbrev pub ClearAs : List TyVar → List TyVar → List ℕ → List ℕ → ℕ → List Pred → Clear → Type 0
-ClearAs fs es ns w top ps All = first (stray_pred fs es) ps ≡ none
-ClearAs fs es ns w top ps (First c t) = (first (stray_pred fs es) ps ≡ some (pred (name_of ns c) (tree ns w t))) × Node w top t
+-- The first one that is ambiguous has class c and type t, with which it is refused.
+pub record FirstStray (fs es : List TyVar) (ns w : List ℕ) (top : ℕ) (ps : List Pred) (e : Refusal) : Type 0 where
+  pub class : ℕ
+  pub type : ℕ
+  pub is : e ≡ Ambiguous class type
+  pub found : first (stray_pred fs es) ps ≡ some (pred (name_of ns class) (tree ns w type))
+  pub node : Node w top type
 
-pub record Tests (fs es : List TyVar) (ns w : List ℕ) (top : ℕ) (ps : List Pred) (r : Clear) : Type 0 where
+-- None of some predicates is ambiguous, or the first one that is is refused.
+abbrev pub ClearAs : List TyVar → List TyVar → List ℕ → List ℕ → ℕ → List Pred → Result (Unit {0}) Refusal → Type 0
+ClearAs fs es ns w top ps (Ok u) = first (stray_pred fs es) ps ≡ none
+ClearAs fs es ns w top ps (Err e) = FirstStray fs es ns w top ps e
+
+pub record Tests (fs es : List TyVar) (ns w : List ℕ) (top : ℕ) (ps : List Pred) (r : Result (Unit {0}) Refusal) : Type 0 where
   pub says : ClearAs fs es ns w top ps r

@@ -8,59 +8,43 @@ ghost use Rattle.ast.specs.Table.{tree};
 ghost use Rattle.supers.specs.Rows.{row_at, binders_in};
 ghost use Rattle.scope.specs.Scope.{env_of};
 ghost use Rattle.canonical.specs.Named.{ReadyType, ReadyRows};
-ghost use Rattle.generalize.specs.Tested.{strays, stray_row, clear_of, Tests};
+ghost use Rattle.generalize.specs.Tested.{strays, stray_row, refusing, Tests};
 
-use ast::Shape;
+use ast::{Base, Shape};
+use errors::Refusal;
+use scope::Env;
 use supers::rows::Row;
 
-// No predicate is ambiguous; or the class and the type of the first one that is.
-#[derive(Clone, Copy)]
-pub enum Clear {
-    All,
-    First(usize, usize),
-}
-
 // Whether neither the type t nor the environment has the variable of word x.
-fn is_lost(
-    base: &[u64],
-    work: &[u64],
-    names: &[u64],
-    env: &[u64],
-    order: &[u64],
-    top: usize,
-    t: usize,
-    x: usize,
-) -> bool
-    requires { ReadyType names.now (base.now ++ work.now) env.now order.now top t }
-    ensures { result ≡ strays (ftv_type (tree names.now (base.now ++ work.now) t) [])
-        (env_ftv (env_of names.now (base.now ++ work.now) env.now order.now))
-        (var (tyvar_of names.now x)) }
+fn is_lost(base: Base, work: &[u64], env: Env, top: usize, t: usize, x: usize) -> bool
+    requires { ReadyType base.names.now (base.words.now ++ work.now) env.rows.now env.order.now top t }
+    ensures { result ≡ strays (ftv_type (tree base.entry.names.now (base.entry.words.now ++ work.now) t) [])
+        (env_ftv (env_of base.entry.names.now (base.entry.words.now ++ work.now) env.entry.rows.now env.entry.order.now))
+        (var (tyvar_of base.entry.names.now x)) }
 {
-    if ast::occurs_in(base, work, names, top, x, t) {
+    if ast::occurs_in(base, work, top, x, t) {
         return false;
     }
-    let f = scope::is_free(base, work, names, env, order, top, x);
+    let f = scope::is_free(base, work, env, top, x);
     !f
 }
 
 // Whether row i is pending at a variable that neither the type t nor the environment has.
 fn is_stray(
-    base: &[u64],
+    base: Base,
     work: &[u64],
-    names: &[u64],
-    env: &[u64],
-    order: &[u64],
+    env: Env,
     binders: &[u64],
     top: usize,
     n: usize,
     t: usize,
     i: usize,
 ) -> bool
-    requires ready_rows { ReadyRows names.now (base.now ++ work.now) env.now order.now binders.now top n t }
+    requires ready_rows { ReadyRows base.names.now (base.words.now ++ work.now) env.rows.now env.order.now binders.now top n t }
     requires i_lt_n { i < n }
-    ensures { result ≡ stray_row (ftv_type (tree names.now (base.now ++ work.now) t) [])
-        (env_ftv (env_of names.now (base.now ++ work.now) env.now order.now))
-        names.now (base.now ++ work.now) (row_at binders.now i) }
+    ensures { result ≡ stray_row (ftv_type (tree base.entry.names.now (base.entry.words.now ++ work.now) t) [])
+        (env_ftv (env_of base.entry.names.now (base.entry.words.now ++ work.now) env.entry.rows.now env.entry.order.now))
+        base.entry.names.now (base.entry.words.now ++ work.now) (row_at binders.now i) }
 {
     let q = supers::rows::row_at(binders, i);
     let Row::Pending(_, _, u) = q else {
@@ -68,48 +52,44 @@ fn is_stray(
     };
     let s = ast::shape_at(base, work, u);
     match s {
-        Shape::Var(x) => is_lost(base, work, names, env, order, top, t, x),
+        Shape::Var(x) => is_lost(base, work, env, top, t, x),
         Shape::Con(_, _) => false,
         Shape::Arrow(_, _) => false,
     }
 }
 
-// The class and the type of row i, if it is pending.
-fn row_of(binders: &[u64], i: usize) -> Clear
+// Refuses row i as ambiguous, if it is pending.
+fn refuse_row(binders: &[u64], i: usize) -> Result<(), Refusal>
     requires { 3 * i + 3 ≤ length binders.now }
-    ensures { result ≡ clear_of (row_at binders.now i) }
+    ensures { result ≡ refusing (row_at binders.now i) }
 {
     let q = supers::rows::row_at(binders, i);
     match q {
-        Row::Pending(_, c, u) => Clear::First(c, u),
-        Row::Replaced(_, _) => Clear::All,
+        Row::Pending(_, c, u) => Err(Refusal::Ambiguous(c, u)),
+        Row::Replaced(_, _) => Ok(()),
     }
 }
 
-// The first pending one of the first n rows at a variable that neither the type t nor the environment has.
+// Refuses the first pending one of the first n rows at a variable that neither the type t nor the environment has.
 pub fn ambiguous(
-    base: &[u64],
+    base: Base,
     work: &[u64],
-    names: &[u64],
-    env: &[u64],
-    order: &[u64],
+    env: Env,
     binders: &[u64],
     top: usize,
     n: usize,
     t: usize,
-) -> Clear
-    requires { ReadyRows names.now (base.now ++ work.now) env.now order.now binders.now top n t }
-    ensures { Tests (ftv_type (tree names.now (base.now ++ work.now) t) [])
-        (env_ftv (env_of names.now (base.now ++ work.now) env.now order.now))
-        names.now (base.now ++ work.now) top
-        (preds_of (binders_in names.now (base.now ++ work.now) binders.now 0 n)) result }
+) -> Result<(), Refusal>
+    requires { ReadyRows base.names.now (base.words.now ++ work.now) env.rows.now env.order.now binders.now top n t }
+    ensures { Tests (ftv_type (tree base.entry.names.now (base.entry.words.now ++ work.now) t) [])
+        (env_ftv (env_of base.entry.names.now (base.entry.words.now ++ work.now) env.entry.rows.now env.entry.order.now))
+        base.entry.names.now (base.entry.words.now ++ work.now) top
+        (preds_of (binders_in base.entry.names.now (base.entry.words.now ++ work.now) binders.now 0 n)) result }
 {
-    let mut i: usize = 0;
-    while i < n {
-        if is_stray(base, work, names, env, order, binders, top, n, t, i) {
-            return row_of(binders, i);
+    for i in 0..n {
+        if is_stray(base, work, env, binders, top, n, t, i) {
+            return refuse_row(binders, i);
         }
-        i += 1;
     }
-    Clear::All
+    Ok(())
 }

@@ -8,238 +8,162 @@ ghost use Rattle.std.specs.Prelude.{[], ◌++◌, ◌*◌, ◌≤◌, length};
 ghost use Rattle.ast.specs.Table.{Node};
 ghost use Rattle.generalize.specs.Naming.{ReadyNames};
 ghost use Rattle.generalize.specs.Generalizes.{GivesConcluded, ReadyFrom, GivesFrom, ReadyGeneralize, GivesGeneralized, GivesNamesFrom, GivesFinalized};
+ghost use Rattle.generalize.specs.Generalized.{generalized_of};
+ghost use Rattle.generalize.specs.Finalized.{finalized_of};
+ghost use Rattle.generalize.specs.Named.{named_of};
 
-use clear::Clear;
+use ast::{Base, Room};
 use errors::Refusal;
-use naming::Named;
-use settle::Settled;
+use naming::Naming;
+use resolve::Rules;
+use scope::Env;
+use subst::Scheme;
 
-// The scheme's variables, predicates and type, the term, how many rows are deferred, the first free node and the steps left; or a
-// refusal with both.
+// A scheme, its term, and how many rows are deferred.
 #[derive(Clone, Copy)]
-pub enum Generalized {
-    Done(usize, usize, usize, usize, usize, usize, usize),
-    Refused(Refusal, usize, usize),
+pub struct General {
+    pub scheme: Scheme,
+    pub term: usize,
+    pub deferred: usize,
 }
 
-// The predicates, the type and the term, the first free node and the steps left; or a refusal with both.
+// A list of predicates, a type, and a term.
 #[derive(Clone, Copy)]
-pub enum Finalized {
-    Done(usize, usize, usize, usize, usize),
-    Refused(Refusal, usize, usize),
+pub struct Final {
+    pub preds: usize,
+    pub ty: usize,
+    pub term: usize,
 }
 
 // The rows of one's own are tested, and then the type t, these rows and the term e get canonical names.
 fn conclude(
-    base: &[u64],
+    base: Base,
     work: &mut [u64],
-    names: &[u64],
-    env: &[u64],
-    order: &[u64],
+    room: &mut Room,
+    env: Env,
     binders: &mut [u64],
-    top: usize,
-    left: usize,
     sp: usize,
     n: usize,
     t: usize,
     e: usize,
-) -> Named
-    requires base_len_bound { length base.now ≤ 4 * top }
-    requires ready_names { ReadyNames names.now (base.now ++ work.old) env.now order.now binders.old top left sp n t }
-    requires node { Node (base.now ++ work.old) top e }
-    ensures { GivesConcluded names.now (base.now ++ work.old) (base.now ++ work.new) env.now order.now
-        binders.old top left sp n t e result }
+) -> Result<Naming, Refusal>
+    requires base_len_bound { length base.words.now ≤ 4 * room.old.top }
+    requires ready_names { ReadyNames base.names.now (base.words.now ++ work.old) env.rows.now env.order.now binders.old room.old.top room.old.left sp n t }
+    requires node { Node (base.words.now ++ work.old) room.old.top e }
+    ensures { GivesConcluded base.entry.names.now (base.entry.words.now ++ work.old) (base.entry.words.now ++ work.new) env.entry.rows.now env.entry.order.now
+        binders.old room.old.top room.old.left sp n t e (named_of result room.new.top room.new.left) }
 {
-    let c = clear::ambiguous(base, work, names, env, order, binders, top, n, t);
-    match c {
-        Clear::All => naming::name_all(
-            base, work, names, env, order, binders, top, left, sp, n, t, e,
-        ),
-        Clear::First(b, u) => Named::Refused(Refusal::Ambiguous(b, u), top, left),
-    }
+    clear::ambiguous(base, work, env, binders, room.top, n, t)?;
+    naming::name_all(base, work, room, env, binders, sp, n, t, e)
 }
 
 // The same of the rows from number nd up to number n.
 fn conclude_from(
-    base: &[u64],
+    base: Base,
     work: &mut [u64],
-    names: &[u64],
-    env: &[u64],
-    order: &[u64],
+    room: &mut Room,
+    env: Env,
     binders: &mut [u64],
-    top: usize,
-    left: usize,
     sp: usize,
     nd: usize,
     n: usize,
     t: usize,
     e: usize,
-) -> Named
+) -> Result<Naming, Refusal>
     requires nd_le_n { nd ≤ n }
     requires n_in_bounds { 3 * n ≤ length binders.old }
-    requires base_len_bound { length base.now ≤ 4 * top }
-    requires ready_from { ReadyFrom names.now (base.now ++ work.old) env.now order.now binders.old top left sp nd n t }
-    requires node { Node (base.now ++ work.old) top e }
-    ensures { GivesFrom names.now (base.now ++ work.old) (base.now ++ work.new) env.now order.now
-        binders.old binders.new top left sp nd n t e result }
+    requires base_len_bound { length base.words.now ≤ 4 * room.old.top }
+    requires ready_from { ReadyFrom base.names.now (base.words.now ++ work.old) env.rows.now env.order.now binders.old room.old.top room.old.left sp nd n t }
+    requires node { Node (base.words.now ++ work.old) room.old.top e }
+    ensures { GivesFrom base.entry.names.now (base.entry.words.now ++ work.old) (base.entry.words.now ++ work.new) env.entry.rows.now env.entry.order.now
+        binders.old binders.new room.old.top room.old.left sp nd n t e (named_of result room.new.top room.new.left) }
 {
     let from = 3 * nd;
     let k = n - nd;
-    conclude(
-        base,
-        work,
-        names,
-        env,
-        order,
-        &mut binders[from..],
-        top,
-        left,
-        sp,
-        k,
-        t,
-        e,
-    )
+    conclude(base, work, room, env, &mut binders[from..], sp, k, t, e)
 }
 
 // `generalize_binding` of the type t, the first n rows, all pending, and the term e. The deferred rows come to the front.
 pub fn generalize(
-    base: &[u64],
+    base: Base,
     work: &mut [u64],
-    names: &[u64],
-    classes: &[u64],
-    insts: &[u64],
-    env: &[u64],
-    order: &[u64],
+    room: &mut Room,
+    rules: Rules,
+    env: Env,
     binders: &mut [u64],
-    top: usize,
-    left: usize,
     sp: usize,
     n: usize,
     t: usize,
     e: usize,
-) -> Generalized
-    requires base_len_bound { length base.now ≤ 4 * top }
-    requires ready_generalize { ReadyGeneralize names.now (base.now ++ work.old) insts.now env.now order.now binders.old top left sp n t e }
-    ensures { GivesGeneralized names.now classes.now (base.now ++ work.old) (base.now ++ work.new)
-        insts.now env.now order.now binders.old binders.new top left sp n t e result }
+) -> Result<General, Refusal>
+    requires base_len_bound { length base.words.now ≤ 4 * room.old.top }
+    requires ready_generalize { ReadyGeneralize base.names.now (base.words.now ++ work.old) rules.insts.now env.rows.now env.order.now binders.old room.old.top room.old.left sp n t e }
+    ensures { GivesGeneralized base.entry.names.now rules.entry.classes.now (base.entry.words.now ++ work.old) (base.entry.words.now ++ work.new)
+        rules.entry.insts.now env.entry.rows.now env.entry.order.now binders.old binders.new room.old.top room.old.left sp n t e (generalized_of result room.new.top room.new.left) }
 {
-    let r = settle::settle(
-        base, work, names, classes, insts, env, order, binders, top, left, sp, n, t, e,
-    );
-    match r {
-        Settled::Done(f, nd, t2, l2) => {
-            let q = conclude_from(
-                base, work, names, env, order, binders, t2, l2, sp, nd, n, t, f,
-            );
-            match q {
-                Named::Done(vs, ps, u, g, t3, l3) => Generalized::Done(vs, ps, u, g, nd, t3, l3),
-                Named::Refused(x, t3, l3) => Generalized::Refused(x, t3, l3),
-            }
-        }
-        Settled::Refused(x, t3, l3) => Generalized::Refused(x, t3, l3),
-    }
+    let r = settle::settle(base, work, room, rules, env, binders, sp, n, t, e)?;
+    let q = conclude_from(base, work, room, env, binders, sp, r.deferred, n, t, r.term)?;
+    Ok(General {
+        scheme: q.scheme,
+        term: q.term,
+        deferred: r.deferred,
+    })
 }
 
 // Canonical names of the rows from number nd up to number n, the type t and the term e.
 fn name_from(
-    base: &[u64],
+    base: Base,
     work: &mut [u64],
-    names: &[u64],
-    env: &[u64],
-    order: &[u64],
+    room: &mut Room,
+    env: Env,
     binders: &mut [u64],
-    top: usize,
-    left: usize,
     sp: usize,
     nd: usize,
     n: usize,
     t: usize,
     e: usize,
-) -> Named
+) -> Result<Naming, Refusal>
     requires nd_le_n { nd ≤ n }
     requires n_in_bounds { 3 * n ≤ length binders.old }
-    requires base_len_bound { length base.now ≤ 4 * top }
-    requires ready_from { ReadyFrom names.now (base.now ++ work.old) env.now order.now binders.old top left sp nd n t }
-    requires node { Node (base.now ++ work.old) top e }
-    ensures { GivesNamesFrom names.now (base.now ++ work.old) (base.now ++ work.new) env.now order.now
-        binders.old top left sp nd n t e result }
+    requires base_len_bound { length base.words.now ≤ 4 * room.old.top }
+    requires ready_from { ReadyFrom base.names.now (base.words.now ++ work.old) env.rows.now env.order.now binders.old room.old.top room.old.left sp nd n t }
+    requires node { Node (base.words.now ++ work.old) room.old.top e }
+    ensures { GivesNamesFrom base.entry.names.now (base.entry.words.now ++ work.old) (base.entry.words.now ++ work.new) env.entry.rows.now env.entry.order.now
+        binders.old room.old.top room.old.left sp nd n t e (named_of result room.new.top room.new.left) }
 {
     let from = 3 * nd;
     let k = n - nd;
-    naming::name_all(
-        base,
-        work,
-        names,
-        env,
-        order,
-        &mut binders[from..],
-        top,
-        left,
-        sp,
-        k,
-        t,
-        e,
-    )
+    naming::name_all(base, work, room, env, &mut binders[from..], sp, k, t, e)
 }
 
 // `finalize_expr` of the type t, the first n rows, all pending, and the term e: there is no environment.
 pub fn finalize(
-    base: &[u64],
+    base: Base,
     work: &mut [u64],
-    names: &[u64],
-    classes: &[u64],
-    insts: &[u64],
+    room: &mut Room,
+    rules: Rules,
     binders: &mut [u64],
-    top: usize,
-    left: usize,
     sp: usize,
     n: usize,
     t: usize,
     e: usize,
-) -> Finalized
-    requires base_len_bound { length base.now ≤ 4 * top }
-    requires ready_generalize { ReadyGeneralize names.now (base.now ++ work.old) insts.now [] [] binders.old top left sp n t e }
-    ensures { GivesFinalized names.now classes.now (base.now ++ work.old) (base.now ++ work.new)
-        insts.now binders.old binders.new top left sp n t e result }
+) -> Result<Final, Refusal>
+    requires base_len_bound { length base.words.now ≤ 4 * room.old.top }
+    requires ready_generalize { ReadyGeneralize base.names.now (base.words.now ++ work.old) rules.insts.now [] [] binders.old room.old.top room.old.left sp n t e }
+    ensures { GivesFinalized base.entry.names.now rules.entry.classes.now (base.entry.words.now ++ work.old) (base.entry.words.now ++ work.new)
+        rules.entry.insts.now binders.old binders.new room.old.top room.old.left sp n t e (finalized_of result room.new.top room.new.left) }
 {
-    let r = settle::settle(
-        base,
-        work,
-        names,
-        classes,
-        insts,
-        &base[0..0],
-        &base[0..0],
-        binders,
-        top,
-        left,
-        sp,
-        n,
-        t,
-        e,
-    );
-    match r {
-        Settled::Done(f, nd, t2, l2) => {
-            let q = name_from(
-                base,
-                work,
-                names,
-                &base[0..0],
-                &base[0..0],
-                binders,
-                t2,
-                l2,
-                sp,
-                nd,
-                n,
-                t,
-                f,
-            );
-            match q {
-                Named::Done(_, ps, u, g, t3, l3) => Finalized::Done(ps, u, g, t3, l3),
-                Named::Refused(x, t3, l3) => Finalized::Refused(x, t3, l3),
-            }
-        }
-        Settled::Refused(x, t3, l3) => Finalized::Refused(x, t3, l3),
-    }
+    let empty = Env {
+        rows: &[],
+        order: &[],
+    };
+    let r = settle::settle(base, work, room, rules, empty, binders, sp, n, t, e)?;
+    let q = name_from(
+        base, work, room, empty, binders, sp, r.deferred, n, t, r.term,
+    )?;
+    Ok(Final {
+        preds: q.scheme.preds,
+        ty: q.scheme.ty,
+        term: q.term,
+    })
 }

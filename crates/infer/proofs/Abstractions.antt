@@ -17,17 +17,16 @@ use Rattle.ast.proofs.Laws.{low_node, low_var}
 use Rattle.errors.specs.declared.Refusal.{Refusal}
 use Rattle.pairs.proofs.Frames.{stands_refl}
 use Rattle.apply.proofs.Hand.{Then, then_done}
-use Rattle.scope.specs.Scope.{entry_of, with_entry, scheme_in, env_of, EntryIn}
+use Rattle.scope.specs.Scope.{local_entry, entry_of, with_entry, scheme_in, env_of, EntryIn}
 use Rattle.scope.specs.declared.Entry.{Entry}
-use Rattle.scope.specs.declared.Entry.TheVariants.{Local}
 use Rattle.scope.proofs.Laws.{scope_row, scope_put, scope_with}
 use Rattle.scope.proofs.Fines.{mono_is, mono_held, entry_kept, scheme_kept}
 use Rattle.scope.proofs.States.{scope_inserts}
 use Rattle.inferred.specs.Parts.{abs_body, abs_rest}
 use Rattle.inferred.specs.Closing.{answer_of}
 use Rattle.inferred.specs.Inferring.{state_of, ReadyI, GivesI}
-use Rattle.inferred.specs.declared.Inferred.{Inferred}
-use Rattle.inferred.specs.declared.Inferred.TheVariants.{Done, Refused}
+use Rattle.inferred.specs.Inferred.{Inferred}
+use Rattle.inferred.specs.Inferred.{Done, Refused}
 use Rattle.infer.specs.Runs.{Nothing, restored_abs}
 use Rattle.infer.specs.Asking.{Asked, AskedNamed, Hidden, ReadyAbsEnd}
 use Rattle.infer.proofs.Handing.{Via, handed, lost_on, got, lost}
@@ -44,7 +43,7 @@ made_word ns k h = rw (fresh_word ns k h) tt
 module _ {ns w ev od il bs : List ℕ} {top left sp tv dv : ℕ} (R : ReadyI 8 1 1 ns w ev od il bs top left sp tv dv) where
   -- The parameter's entry.
   abbrev own : Entry
-  own = Local 0 0 (first_fresh + tv)
+  own = local_entry 0 0 (first_fresh + tv)
 
   -- A file's name has a row.
   pub abs_there : {bytes ix cl mt : List ℕ} {r i : ℕ} {p : ClassEnv × Expr} → length od ≤ r → AskedNamed bytes ns ix w cl mt il ev od top r i p → ⊥

@@ -20,15 +20,15 @@ use Rattle.cores.proofs.TermLaws.{kept_core}
 use Rattle.instances.proofs.Held.{heads_kept}
 use Rattle.scope.specs.Scope.{env_of}
 use Rattle.scope.specs.Sweeps.{ReadyEnv, EnvDone, GivesEnv}
-use Rattle.scope.specs.declared.Swept.{Swept}
-use Rattle.scope.specs.declared.Swept.TheVariants.{Done as S-Done, Refused as S-Refused}
+use Rattle.scope.specs.Swept.{Swept}
+use Rattle.scope.specs.Swept.{Done as S-Done, Refused as S-Refused}
 use Rattle.scope.proofs.States.{scope_applies, scope_refuses}
 use Rattle.pending.specs.Rows.{PendingRows}
 use Rattle.inferred.specs.Parts.{app_arg}
 use Rattle.inferred.specs.Closing.{answer_of, answer_from}
 use Rattle.inferred.specs.Inferring.{state_of, GrownI, ReadyI, GivesI}
-use Rattle.inferred.specs.declared.Inferred.{Inferred}
-use Rattle.inferred.specs.declared.Inferred.TheVariants.{Done, Refused}
+use Rattle.inferred.specs.Inferred.{Inferred}
+use Rattle.inferred.specs.Inferred.{Done, Refused}
 use Rattle.inferred.proofs.Ends.{rows_same, region_later}
 use Rattle.infer.specs.Runs.{Nothing, inferred_then, closed_app}
 use Rattle.infer.specs.Asking.{Asked, AskedTwo, AskedAfter, ReadyArg, ReadyAppEnd, GivesO}

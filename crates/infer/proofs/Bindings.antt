@@ -26,14 +26,14 @@ use Rattle.instances.proofs.Held.{heads_kept}
 use Rattle.inferred.specs.Parts.{let_general, let_mid, let_body}
 use Rattle.inferred.specs.Closing.{answer_of}
 use Rattle.inferred.specs.Inferring.{state_of, ReadyI, GivesI}
-use Rattle.inferred.specs.declared.Inferred.{Inferred}
-use Rattle.inferred.specs.declared.Inferred.TheVariants.{Done, Refused}
+use Rattle.inferred.specs.Inferred.{Inferred}
+use Rattle.inferred.specs.Inferred.{Done, Refused}
 use Rattle.inferred.proofs.Ends.{region_later}
 use Rattle.infer.specs.Runs.{inferred_then}
 use Rattle.binding.specs.General.{ReadyMid, AskedGeneral, GrownG, GivesG}
 use Rattle.infer.specs.Asking.{Asked, AskedLet, AskedMid, AskedBody, ReadyBody}
-use Rattle.generalize.specs.declared.Generalized.{Generalized}
-use Rattle.generalize.specs.declared.Generalized.TheVariants.{Done as G-Done, Refused as G-Refused}
+use Rattle.generalize.specs.Generalized.{Generalized}
+use Rattle.generalize.specs.Generalized.{Done as G-Done, Refused as G-Refused}
 use Rattle.infer.proofs.Handing.{Via, handed, lost_on, got, lost}
 use Rattle.binding.proofs.AfterEnv.{says_done}
 use Rattle.infer.proofs.Standing.{still_kept, inferred_fit}

@@ -19,17 +19,16 @@ use Rattle.cores.specs.Terms.{core}
 use Rattle.cores.proofs.TermLaws.{kept_core}
 use Rattle.supers.specs.Rows.{binders_in}
 use Rattle.subst.specs.Schemes.{scheme_of_word}
-use Rattle.scope.specs.Scope.{entry_of, with_entry, scheme_in, env_of}
+use Rattle.scope.specs.Scope.{local_entry, entry_of, with_entry, scheme_in, env_of}
 use Rattle.scope.specs.declared.Entry.{Entry}
-use Rattle.scope.specs.declared.Entry.TheVariants.{Local}
 use Rattle.scope.proofs.Laws.{scope_row, scope_put, scope_with}
 use Rattle.scope.proofs.Fines.{entry_kept, scheme_kept}
 use Rattle.scope.proofs.States.{scope_inserts}
 use Rattle.inferred.specs.Parts.{let_body, let_rest}
 use Rattle.inferred.specs.Closing.{answer_of, answer_from}
 use Rattle.inferred.specs.Inferring.{state_of, GrownI, ReadyI, GivesI}
-use Rattle.inferred.specs.declared.Inferred.{Inferred}
-use Rattle.inferred.specs.declared.Inferred.TheVariants.{Done, Refused}
+use Rattle.inferred.specs.Inferred.{Inferred}
+use Rattle.inferred.specs.Inferred.{Done, Refused}
 use Rattle.inferred.proofs.Ends.{rows_same, region_later}
 use Rattle.infer.specs.Runs.{Nothing, restored_let}
 use Rattle.infer.specs.Asking.{Asked, AskedBody, Hidden, ReadyBody, ReadyLetEnd, GivesO}
@@ -48,7 +47,7 @@ module _ {ns w ev od il bs : List ℕ} {top left sp tv dv k vs ps u c nd : ℕ} 
   pub let_row : 4 * r + 4 ≤ length ev
   let_row = scope_row R.ready.scope r h
 
-  module _ {ev₁ : List ℕ} (e : ev₁ ≡ with_entry ev r (Local vs ps u)) where
+  module _ {ev₁ : List ℕ} (e : ev₁ ≡ with_entry ev r (local_entry vs ps u)) where
     -- What the rest asks.
     pub let_asks : ReadyBody ns w ev₁ od il bs top left sp tv dv k vs ps u c nd
     let_asks = let Q = R.ready in record {
@@ -56,7 +55,7 @@ module _ {ns w ev od il bs : List ℕ} {top left sp tv dv k vs ps u c nd : ℕ} 
         names = Q.names;
         built = Q.built;
         table = Q.table;
-        scope = rw e (scope_with Q.scope r (Local vs ps u) h R.scheme);
+        scope = rw e (scope_with Q.scope r (local_entry vs ps u) h R.scheme);
         all = Q.all;
         heads = Q.heads;
         room = Q.room;
@@ -91,9 +90,9 @@ module _ {ns w ev od il bs : List ℕ} {top left sp tv dv k vs ps u c nd : ℕ} 
           still = A.asked.still;
           right = A.asked.right;
           written = A.asked.written;
-          made = rw (e, scope_put R.ready.scope r h (Local vs ps u) _ refl) (insert_made (name_of ns r) (scheme_of_word ns w vs ps u) (env_of ns w ev od) A.scheme A.asked.made);
+          made = rw (e, scope_put R.ready.scope r h (local_entry vs ps u) _ refl) (insert_made (name_of ns r) (scheme_of_word ns w vs ps u) (env_of ns w ev od) A.scheme A.asked.made);
         };
-        is = rw (scope_inserts R.ready.scope (state_of ns w ev od tv dv) refl r h left (Local vs ps u) _ refl, f, e);
+        is = rw (scope_inserts R.ready.scope (state_of ns w ev od tv dv) refl r h left (local_entry vs ps u) _ refl, f, e);
       }
 
       -- Its answer is the answer.

@@ -14,12 +14,13 @@ use Rattle.names.specs.Names.{first_fresh, name_of, tyvar_of}
 use Rattle.errors.specs.declared.Refusal.TheVariants.{Steps, Depth}
 use Rattle.pairs.proofs.Frames.{stands_refl}
 use Rattle.exprs.specs.Exprs.{ShownAs, Shows}
-use Rattle.exprs.specs.declared.Node.{Node}
-use Rattle.exprs.specs.declared.Node.TheVariants.{Var, Int, Bool, Abs, App, Let, Nothing as N-Nothing}
+use Rattle.std.specs.Prelude.{Option, Some, None}
+use Rattle.views.specs.declared.ExprNode.{ExprNode}
+use Rattle.views.specs.declared.ExprNode.TheVariants.{Var, Int, Bool, Abs, App, Let}
 use Rattle.inferred.specs.Parts.{abs_body, app_arg, let_mid}
 use Rattle.inferred.specs.Inferring.{state_of, ReadyI, GivesI}
-use Rattle.inferred.specs.declared.Inferred.{Inferred}
-use Rattle.inferred.specs.declared.Inferred.TheVariants.{Refused}
+use Rattle.inferred.specs.Inferred.{Inferred}
+use Rattle.inferred.specs.Inferred.{Refused}
 use Rattle.inferred.proofs.Cuts.{abs_cut, app_cut, let_cut}
 use Rattle.infer.specs.Runs.{Nothing, literal, inferred_then}
 use Rattle.infer.specs.Asking.{Asked, AskedNamed, AskedName, AskedTwo, AskedLet}
@@ -62,6 +63,10 @@ let_node : (ce : ClassEnv) (inf : Expr → M.Run M.Inferred) (v : Name) (b f : E
 unfolding M.infer_node
 let_node ce inf v b f st n = let_cut ce inf v b f st n
 
+-- What the view says, in two steps.
+pub node_is : {x : Option ExprNode} {n y : ExprNode} → x ≡ Some n → n ≡ y → x ≡ Some y
+node_is e f = e ∙ ap (λ (z : ExprNode). Some z) f
+
 -- A variable.
 var_node : (ce : ClassEnv) (inf : Expr → M.Run M.Inferred) (x : Name) (st : M.State) (n : ℕ) → M.infer_node ce inf (evar x) st n ≡ M.infer_var ce x st n
 unfolding M.infer_node
@@ -88,8 +93,8 @@ module _ {ns w ev od il bs : List ℕ} {top left sp tv dv : ℕ} (R : ReadyI 0 0
 
   module _ (h : depth ≡ 0 → ⊥) where
     -- No step is left.
-    pub infer_spent : left ≡ 0 → GivesI (Asked bytes ns ix w cl mt il ev od top i) whole 0 0 0 ns w w ev od bs bs top left sp tv dv (Refused Steps top 0)
-    infer_spent k = refused_here tt (omega arith) (λ p A. spent depth p.0 p.1 (state_of ns w ev od tv dv) left h k)
+    pub infer_spent : left ≡ 0 → GivesI (Asked bytes ns ix w cl mt il ev od top i) whole 0 0 0 ns w w ev od bs bs top left sp tv dv (Refused Steps top left)
+    infer_spent k = refused_here tt (omega arith) (λ p A. spent depth p.0 p.1 (state_of ns w ev od tv dv) left h k ∙ rw k refl)
 
     module _ (k : left ≡ 0 → ⊥) where
       -- What the members ask: the step pays for eight words, a variable and a row.
@@ -116,17 +121,17 @@ module _ {ns w ev od il bs : List ℕ} {top left sp tv dv : ℕ} (R : ReadyI 0 0
       hands a b c via G = handed (record { more = omega arith; fewer = omega arith; words = omega arith; rows = omega arith; tvs = omega arith; dvs = omega arith })
           (λ p A. let v = via p A in record { at = v.at; holds = v.holds; is = one_step depth p.0 p.1 (state_of ns w ev od tv dv) left h k ∙ v.is }) (stands_refl _ _ _) refl G
 
-      module _ {x : Node} (S : Shows bytes ix i x) where
+      module _ {x : Option ExprNode} (S : Shows bytes ix i x) where
         -- What the view says.
-        shown : {y : Node} → x ≡ y → (p : ClassEnv × Expr) → Asked bytes ns ix w cl mt il ev od top i p → ShownAs bytes ns ix i p.1 y
+        shown : {y : Option ExprNode} → x ≡ y → (p : ClassEnv × Expr) → Asked bytes ns ix w cl mt il ev od top i p → ShownAs bytes ns ix i p.1 y
         shown e p A = rw e at (S.is ns p.1 A.written)
 
         -- No node of a file.
-        pub infer_nothing : x ≡ N-Nothing → GivesI (Asked bytes ns ix w cl mt il ev od top i) whole 0 0 0 ns w w ev od bs bs top left sp tv dv (Refused Depth top left)
+        pub infer_nothing : x ≡ None → GivesI (Asked bytes ns ix w cl mt il ev od top i) whole 0 0 0 ns w w ev od bs bs top left sp tv dv (Refused Depth top left)
         infer_nothing e = refused_here tt (omega arith) (λ p A. absurd (shown e p A))
 
         -- A variable.
-        pub infer_name : {r : ℕ} {w' ev' bs' : List ℕ} {q : Inferred} → x ≡ Var r
+        pub infer_name : {r : ℕ} {w' ev' bs' : List ℕ} {q : Inferred} → x ≡ Some (Var r)
             → GivesI (AskedName ns w cl mt il top r) (λ ce. M.infer_var ce (name_of ns r) (state_of ns w ev od tv dv) (left - 1)) 0 0 0 ns w w' ev' od bs bs' top (left - 1) sp tv dv q
             → GivesI (Asked bytes ns ix w cl mt il ev od top i) whole 0 0 0 ns w w' ev' od bs bs' top left sp tv dv q
         infer_name {r} e G = hands (omega arith) (omega arith) (omega arith) (λ p A. let v = shown e p A in record {
@@ -136,7 +141,7 @@ module _ {ns w ev od il bs : List ℕ} {top left sp tv dv : ℕ} (R : ReadyI 0 0
         }) G
 
         -- A number.
-        pub infer_int : {v : ℕ} {w' : List ℕ} {q : Inferred} → x ≡ Int v
+        pub infer_int : {v : ℕ} {w' : List ℕ} {q : Inferred} → x ≡ Some (Int v)
             → GivesI Nothing (λ _. literal (empty, int, [], cint v) (state_of ns w ev od tv dv) (left - 1)) 8 0 0 ns w w' ev od bs bs top (left - 1) sp tv dv q
             → GivesI (Asked bytes ns ix w cl mt il ev od top i) whole 0 0 0 ns w w' ev od bs bs top left sp tv dv q
         infer_int {v} e G = hands (omega arith) (omega arith) (omega arith) (λ p A. record {
@@ -146,7 +151,7 @@ module _ {ns w ev od il bs : List ℕ} {top left sp tv dv : ℕ} (R : ReadyI 0 0
         }) G
 
         -- A truth value.
-        pub infer_bool : {b : _} {w' : List ℕ} {q : Inferred} → x ≡ Bool b
+        pub infer_bool : {b : _} {w' : List ℕ} {q : Inferred} → x ≡ Some (Bool b)
             → GivesI Nothing (λ _. literal (empty, bool, [], cbool b) (state_of ns w ev od tv dv) (left - 1)) 8 0 0 ns w w' ev od bs bs top (left - 1) sp tv dv q
             → GivesI (Asked bytes ns ix w cl mt il ev od top i) whole 0 0 0 ns w w' ev od bs bs top left sp tv dv q
         infer_bool {b} e G = hands (omega arith) (omega arith) (omega arith) (λ p A. record {
@@ -156,7 +161,7 @@ module _ {ns w ev od il bs : List ℕ} {top left sp tv dv : ℕ} (R : ReadyI 0 0
         }) G
 
         -- A function.
-        pub infer_abs : {r b : ℕ} {w' ev' bs' : List ℕ} {q : Inferred} → x ≡ Abs r b
+        pub infer_abs : {r b : ℕ} {w' ev' bs' : List ℕ} {q : Inferred} → x ≡ Some (Abs r b)
             → GivesI (AskedNamed bytes ns ix w cl mt il ev od top r b) (λ p. abs_body (λ u. M.infer_in (depth - 1) p.0 u) (name_of ns r) (tyvar_of ns (first_fresh + tv)) p.1 (state_of ns w ev od (tv + 1) dv) (left - 1))
             8 1 1 ns w w' ev' od bs bs' top (left - 1) sp tv dv q
             → GivesI (Asked bytes ns ix w cl mt il ev od top i) whole 0 0 0 ns w w' ev' od bs bs' top left sp tv dv q
@@ -167,7 +172,7 @@ module _ {ns w ev od il bs : List ℕ} {top left sp tv dv : ℕ} (R : ReadyI 0 0
         }) G
 
         -- An application.
-        pub infer_app : {f y : ℕ} {w' ev' bs' : List ℕ} {q : Inferred} → x ≡ App f y
+        pub infer_app : {f y : ℕ} {w' ev' bs' : List ℕ} {q : Inferred} → x ≡ Some (App f y)
             → GivesI (AskedTwo bytes ns ix w cl mt il ev od top f y) (λ p. inferred_then (M.infer_in (depth - 1) p.0 p.1) (λ r. app_arg (λ u. M.infer_in (depth - 1) p.0 u) (tyvar_of ns (first_fresh + tv)) r p.2) (state_of ns w ev od (tv + 1) dv) (left - 1))
             8 1 1 ns w w' ev' od bs bs' top (left - 1) sp tv dv q
             → GivesI (Asked bytes ns ix w cl mt il ev od top i) whole 0 0 0 ns w w' ev' od bs bs' top left sp tv dv q
@@ -178,7 +183,7 @@ module _ {ns w ev od il bs : List ℕ} {top left sp tv dv : ℕ} (R : ReadyI 0 0
         }) G
 
         -- A let.
-        pub infer_let : {r b f : ℕ} {w' ev' bs' : List ℕ} {q : Inferred} → x ≡ Let r b f
+        pub infer_let : {r b f : ℕ} {w' ev' bs' : List ℕ} {q : Inferred} → x ≡ Some (Let r b f)
             → GivesI (AskedLet bytes ns ix w cl mt il ev od top r b f) (λ p. inferred_then (M.infer_in (depth - 1) p.0 p.1) (λ r₁. let_mid p.0 (λ u. M.infer_in (depth - 1) p.0 u) (name_of ns r) r₁ p.2) (state_of ns w ev od tv dv) (left - 1))
             8 0 1 ns w w' ev' od bs bs' top (left - 1) sp tv dv q
             → GivesI (Asked bytes ns ix w cl mt il ev od top i) whole 0 0 0 ns w w' ev' od bs bs' top left sp tv dv q

@@ -15,10 +15,10 @@ use Rattle.scope.specs.Scope.{Scope}
 use Rattle.scope.proofs.Laws.{scope_kept, env_kept}
 use Rattle.inferred.specs.Closing.{answer_of, AnswerC, GivesC}
 use Rattle.inferred.specs.Inferring.{state_of, with_state, GrownI, AnswerI, GivesI}
-use Rattle.inferred.specs.declared.Closed.{Closed}
-use Rattle.inferred.specs.declared.Closed.TheVariants.{Done as C-Done, Refused as C-Refused}
-use Rattle.inferred.specs.declared.Inferred.{Inferred}
-use Rattle.inferred.specs.declared.Inferred.TheVariants.{Done, Refused}
+use Rattle.inferred.specs.Closed.{Closed}
+use Rattle.inferred.specs.Closed.{Done as C-Done, Refused as C-Refused}
+use Rattle.inferred.specs.Inferred.{Inferred}
+use Rattle.inferred.specs.Inferred.{Done, Refused}
 use Rattle.infer.specs.Runs.{Nothing}
 
 -- The outcome is that of a call, for one of the things that the call's promise is about.

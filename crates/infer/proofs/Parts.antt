@@ -8,7 +8,7 @@ use lib.Seq.{length-take-le, take_all, drop-length, take_at, drop_at, get_or-tak
 use Rattle.meaning.specs.Budget.{Out}
 use Rattle.meaning.specs.Infer as M
 use Rattle.inferred.specs.Inferring.{ReadyI, GivesI}
-use Rattle.inferred.specs.declared.Inferred.{Inferred}
+use Rattle.inferred.specs.Inferred.{Inferred}
 use Rattle.infer.specs.Asking.{GivesO}
 
 -- The rest of a list as a part of it.

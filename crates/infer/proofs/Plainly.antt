@@ -19,14 +19,14 @@ use Rattle.scope.proofs.States.{scope_restores}
 use Rattle.pending.specs.Rows.{PendingRow}
 use Rattle.instantiate.specs.Instance.{Waits}
 use Rattle.instantiate.specs.Looks.{ReadyLook, Same, Looks, GivesLooked}
-use Rattle.instantiate.specs.declared.Looked.{Looked}
-use Rattle.instantiate.specs.declared.Looked.TheVariants.{Done as L-Done, Refused as L-Refused}
+use Rattle.instantiate.specs.Looked.{Looked}
+use Rattle.instantiate.specs.Looked.{Done as L-Done, Refused as L-Refused}
 use Rattle.inferred.specs.Parts.{abs_close, let_close}
 use Rattle.inferred.specs.Closing.{answer_of, answer_from, ReadyLiteral, GivesC}
 use Rattle.inferred.specs.Inferring.{state_of, with_state, ReadyI, GivesI}
-use Rattle.inferred.specs.declared.Closed.{Closed}
-use Rattle.inferred.specs.declared.Inferred.{Inferred}
-use Rattle.inferred.specs.declared.Inferred.TheVariants.{Done, Refused}
+use Rattle.inferred.specs.Closed.{Closed}
+use Rattle.inferred.specs.Inferred.{Inferred}
+use Rattle.inferred.specs.Inferred.{Done, Refused}
 use Rattle.inferred.proofs.Literals.{no_region}
 use Rattle.infer.specs.Runs.{Nothing, literal, restored_abs, restored_let}
 use Rattle.infer.specs.Asking.{AskedName, ReadyAbsEnd, ReadyAppEnd, ReadyLetEnd}

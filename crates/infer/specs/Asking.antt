@@ -16,7 +16,7 @@ use Rattle.exprs.specs.Exprs.{Written}
 use Rattle.instantiate.specs.Looks.{NamesRight}
 use Rattle.inferred.specs.Closing.{Region, Answered, ReadyAbs, ReadyApp, ReadyLet}
 use Rattle.inferred.specs.Inferring.{Still, ReadyI, GivesI}
-use Rattle.inferred.specs.declared.Inferred.{Inferred}
+use Rattle.inferred.specs.Inferred.{Inferred}
 use Rattle.binding.specs.General.{Fit}
 
 -- ## Expressions

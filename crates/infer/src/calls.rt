@@ -8,168 +8,133 @@ ghost use Rattle.inferred.specs.Closing.{answer_of, answer_from};
 ghost use Rattle.inferred.specs.Inferring.{state_of, ReadyI, GivesI};
 ghost use Rattle.infer.specs.Runs.{Nothing, inferred_then, closed_app};
 ghost use Rattle.infer.specs.Asking.{AskedTwo, AskedAfter, ReadyArg, ReadyAppEnd};
+ghost use Rattle.inferred.specs.Inferred.{inferred_of};
 
-use inferred::Inferred;
-use scope::Swept;
+use ast::{Base, Room};
+use errors::Refusal;
+use inferred::Typed;
+use pairs::Subst;
+use resolve::Rules;
+use scope::{Env, Fresh};
+use views::File;
 
 // `infer_app`: the function first.
 #[cycle(app_app_arg_abs_abs_rest_infer_let_body_let_rest_binding_let_mid_onward)]
 pub fn app(
-    base: &[u64],
+    base: Base,
     work: &mut [u64],
-    names: &[u64],
-    src: &[u8],
-    index: &[u64],
-    classes: &[u64],
+    room: &mut Room,
+    file: File,
+    rules: Rules,
     methods: &[u64],
-    insts: &[u64],
     order: &[u64],
     env: &mut [u64],
     binders: &mut [u64],
-    top: usize,
-    left: usize,
     depth: usize,
     sp: usize,
-    tv: usize,
-    dv: usize,
+    fresh: Fresh,
     f: usize,
     x: usize,
-) -> Inferred
-    requires base_len_bound { length base.now ≤ 4 * top }
-    requires ready_i { ReadyI 8 1 1 names.now (base.now ++ work.old) env.old order.now insts.now binders.old top left sp tv dv }
-    ensures { GivesI (AskedTwo src.now names.now index.now (base.now ++ work.old) classes.now methods.now insts.now env.old order.now top f x) (λ p. inferred_then (infer_in depth p.0 p.1) (λ r. app_arg (λ u. infer_in depth p.0 u) (tyvar_of names.now (first_fresh + tv)) r p.2) (state_of names.now (base.now ++ work.old) env.old order.now (tv + 1) dv) left) 8 1 1 names.now (base.now ++ work.old) (base.now ++ work.new)
-        env.new order.now binders.old binders.new top left sp tv dv result }
+) -> Result<Typed, Refusal>
+    requires base_len_bound { length base.words.now ≤ 4 * room.old.top }
+    requires ready_i { ReadyI 8 1 1 base.names.now (base.words.now ++ work.old) env.old order.now rules.insts.now binders.old room.old.top room.old.left sp fresh.tv fresh.dv }
+    ensures { GivesI (AskedTwo file.entry.src.now base.entry.names.now file.entry.index.now (base.entry.words.now ++ work.old) rules.entry.classes.now methods.now rules.entry.insts.now env.old order.now room.old.top f x) (λ p. inferred_then (infer_in depth p.0 p.1) (λ r. app_arg (λ u. infer_in depth p.0 u) (tyvar_of base.entry.names.now (first_fresh + fresh.tv)) r p.2) (state_of base.entry.names.now (base.entry.words.now ++ work.old) env.old order.now (fresh.tv + 1) fresh.dv) room.old.left) 8 1 1 base.entry.names.now (base.entry.words.now ++ work.old) (base.entry.words.now ++ work.new)
+        env.new order.now binders.old binders.new room.old.top room.old.left sp fresh.tv fresh.dv (inferred_of result room.new.top room.new.left) }
 {
-    let a = names::FRESH + tv;
-    let q = crate::infer(
-        base,
-        work,
-        names,
-        src,
-        index,
-        classes,
-        methods,
-        insts,
-        order,
-        env,
-        binders,
-        top,
-        left,
-        depth,
-        sp,
-        tv + 1,
-        dv,
-        f,
-    );
-    match q {
-        Inferred::Done(t, e, k, m, t2, l2, tv2, dv2) => app_arg(
-            base, work, names, src, index, classes, methods, insts, order, env, binders, t2, l2,
-            depth, sp, tv2, dv2, a, t, e, k, m, x,
-        ),
-        Inferred::Refused(e, t2, l2) => Inferred::Refused(e, t2, l2),
-    }
+    let a = names::FRESH + fresh.tv;
+    let next = Fresh {
+        tv: fresh.tv + 1,
+        dv: fresh.dv,
+    };
+    let function = crate::infer(
+        base, work, room, file, rules, methods, order, env, binders, depth, sp, next, f,
+    )?;
+    let next = function.fresh;
+    app_arg(
+        base, work, room, file, rules, methods, order, env, binders, depth, sp, next, a, function,
+        x,
+    )
 }
 
 // The function's pairs are applied to the environment; then the argument, whose rows follow the function's.
 #[cycle(app_app_arg_abs_abs_rest_infer_let_body_let_rest_binding_let_mid_onward)]
 fn app_arg(
-    base: &[u64],
+    base: Base,
     work: &mut [u64],
-    names: &[u64],
-    src: &[u8],
-    index: &[u64],
-    classes: &[u64],
+    room: &mut Room,
+    file: File,
+    rules: Rules,
     methods: &[u64],
-    insts: &[u64],
     order: &[u64],
     env: &mut [u64],
     binders: &mut [u64],
-    top: usize,
-    left: usize,
     depth: usize,
     sp: usize,
-    tv: usize,
-    dv: usize,
+    fresh: Fresh,
     a: usize,
-    tf: usize,
-    f: usize,
-    k: usize,
-    m: usize,
+    function: Typed,
     x: usize,
-) -> Inferred
-    requires base_len_bound { length base.now ≤ 4 * top }
-    requires ready_arg { ReadyArg names.now (base.now ++ work.old) env.old order.now insts.now binders.old top left sp tv dv tf f k m a }
-    ensures { GivesI (AskedAfter src.now names.now index.now (base.now ++ work.old) classes.now methods.now insts.now env.old order.now top x (sub_at names.now (base.now ++ work.old) (sp - 2 * k) k)) (λ p. app_arg (λ u. infer_in depth p.0 u) (tyvar_of names.now a) (answer_of names.now (base.now ++ work.old) binders.old sp tf f k m) p.1 (state_of names.now (base.now ++ work.old) env.old order.now tv dv) left) (2 * k + 8) 0 m names.now (base.now ++ work.old) (base.now ++ work.new)
-        env.new order.now binders.old binders.new top left sp tv dv result }
+) -> Result<Typed, Refusal>
+    requires base_len_bound { length base.words.now ≤ 4 * room.old.top }
+    requires ready_arg { ReadyArg base.names.now (base.words.now ++ work.old) env.old order.now rules.insts.now binders.old room.old.top room.old.left sp fresh.tv fresh.dv function.ty function.term function.pairs function.rows a }
+    ensures { GivesI (AskedAfter file.entry.src.now base.entry.names.now file.entry.index.now (base.entry.words.now ++ work.old) rules.entry.classes.now methods.now rules.entry.insts.now env.old order.now room.old.top x (sub_at base.entry.names.now (base.entry.words.now ++ work.old) (sp - 2 * function.pairs) function.pairs)) (λ p. app_arg (λ u. infer_in depth p.0 u) (tyvar_of base.entry.names.now a) (answer_of base.entry.names.now (base.entry.words.now ++ work.old) binders.old sp function.ty function.term function.pairs function.rows) p.1 (state_of base.entry.names.now (base.entry.words.now ++ work.old) env.old order.now fresh.tv fresh.dv) room.old.left) (2 * function.pairs + 8) 0 function.rows base.entry.names.now (base.entry.words.now ++ work.old) (base.entry.words.now ++ work.new)
+        env.new order.now binders.old binders.new room.old.top room.old.left sp fresh.tv fresh.dv (inferred_of result room.new.top room.new.left) }
 {
+    let k = function.pairs;
     let at = sp - 2 * k;
-    let s = scope::apply_env(base, work, names, env, order, top, left, at, k);
-    match s {
-        Swept::Done(t2, l2) => {
-            let q = crate::onward(
-                base, work, names, src, index, classes, methods, insts, order, env, binders, t2,
-                l2, depth, at, tv, dv, m, x,
-            );
-            match q {
-                Inferred::Done(tx, e, k2, m2, t3, l3, tv3, dv3) => app_end(
-                    base,
-                    work,
-                    names,
-                    order,
-                    env,
-                    binders,
-                    t3,
-                    l3,
-                    sp,
-                    tv3,
-                    dv3,
-                    k,
-                    k2,
-                    m,
-                    m + m2,
-                    a,
-                    tf,
-                    tx,
-                    f,
-                    e,
-                ),
-                Inferred::Refused(e, t3, l3) => Inferred::Refused(e, t3, l3),
-            }
-        }
-        Swept::Refused(e, t2, l2) => Inferred::Refused(e, t2, l2),
-    }
+    scope::apply_env(base, work, room, env, order, Subst { at, k })?;
+    let argument = crate::onward(
+        base,
+        work,
+        room,
+        file,
+        rules,
+        methods,
+        order,
+        env,
+        binders,
+        depth,
+        at,
+        fresh,
+        function.rows,
+        x,
+    )?;
+    let argument = Typed {
+        rows: function.rows + argument.rows,
+        ..argument
+    };
+    app_end(
+        base,
+        work,
+        room,
+        Env { rows: env, order },
+        binders,
+        sp,
+        argument.fresh,
+        a,
+        function,
+        argument,
+    )
 }
 
-// The end of an application.
+// The end of an application: the argument's rows are all that are pending.
 fn app_end(
-    base: &[u64],
+    base: Base,
     work: &mut [u64],
-    names: &[u64],
-    order: &[u64],
-    env: &[u64],
+    room: &mut Room,
+    env: Env,
     binders: &mut [u64],
-    top: usize,
-    left: usize,
     sp: usize,
-    tv: usize,
-    dv: usize,
-    k1: usize,
-    k2: usize,
-    m1: usize,
-    m: usize,
+    fresh: Fresh,
     a: usize,
-    tf: usize,
-    tx: usize,
-    f: usize,
-    e: usize,
-) -> Inferred
-    requires base_len_bound { length base.now ≤ 4 * top }
-    requires ready_app_end { ReadyAppEnd names.now (base.now ++ work.old) env.now order.now binders.old top left sp tf f k1 tx e k2 m1 m a }
-    ensures { GivesI Nothing (λ _. closed_app (tyvar_of names.now a) (answer_of names.now (base.now ++ work.old) binders.old sp tf f k1 m1) (answer_from names.now (base.now ++ work.old) binders.old (sp - 2 * k1) tx e k2 m1 m) (state_of names.now (base.now ++ work.old) env.now order.now tv dv) left) (2 * k1 + 2 * k2 + 8) 0 m names.now (base.now ++ work.old) (base.now ++ work.new)
-        env.now order.now binders.old binders.new top left sp tv dv result }
+    function: Typed,
+    argument: Typed,
+) -> Result<Typed, Refusal>
+    requires base_len_bound { length base.words.now ≤ 4 * room.old.top }
+    requires ready_app_end { ReadyAppEnd base.names.now (base.words.now ++ work.old) env.rows.now env.order.now binders.old room.old.top room.old.left sp function.ty function.term function.pairs argument.ty argument.term argument.pairs function.rows argument.rows a }
+    ensures { GivesI Nothing (λ _. closed_app (tyvar_of base.entry.names.now a) (answer_of base.entry.names.now (base.entry.words.now ++ work.old) binders.old sp function.ty function.term function.pairs function.rows) (answer_from base.entry.names.now (base.entry.words.now ++ work.old) binders.old (sp - 2 * function.pairs) argument.ty argument.term argument.pairs function.rows argument.rows) (state_of base.entry.names.now (base.entry.words.now ++ work.old) env.entry.rows.now env.entry.order.now fresh.tv fresh.dv) room.old.left) (2 * function.pairs + 2 * argument.pairs + 8) 0 argument.rows base.entry.names.now (base.entry.words.now ++ work.old) (base.entry.words.now ++ work.new)
+        env.entry.rows.now env.entry.order.now binders.old binders.new room.old.top room.old.left sp fresh.tv fresh.dv (inferred_of result room.new.top room.new.left) }
 {
-    let c = inferred::app_close(
-        base, work, names, binders, top, left, sp, k1, k2, m1, m, a, tf, tx, f, e,
-    );
-    inferred::with_state(c, m, tv, dv)
+    let c = inferred::app_close(base, work, room, binders, sp, a, function, argument)?;
+    Ok(c.with_state(argument.rows, fresh))
 }

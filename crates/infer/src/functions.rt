@@ -8,141 +8,115 @@ ghost use Rattle.inferred.specs.Closing.{answer_of};
 ghost use Rattle.inferred.specs.Inferring.{state_of, ReadyI, GivesI};
 ghost use Rattle.infer.specs.Runs.{Nothing, restored_abs};
 ghost use Rattle.infer.specs.Asking.{Asked, AskedNamed, Hidden, ReadyAbsEnd};
+ghost use Rattle.inferred.specs.Inferred.{inferred_of};
 
+use ast::{Base, Room};
 use errors::Refusal;
-use inferred::Inferred;
-use scope::Entry;
+use inferred::Typed;
+use resolve::Rules;
+use scope::{Entry, Fresh};
+use subst::Scheme;
+use views::File;
 
 // `infer_abs`: the parameter has a row of its own while the body is inferred.
 #[cycle(app_app_arg_abs_abs_rest_infer_let_body_let_rest_binding_let_mid_onward)]
 pub fn abs(
-    base: &[u64],
+    base: Base,
     work: &mut [u64],
-    names: &[u64],
-    src: &[u8],
-    index: &[u64],
-    classes: &[u64],
+    room: &mut Room,
+    file: File,
+    rules: Rules,
     methods: &[u64],
-    insts: &[u64],
     order: &[u64],
     env: &mut [u64],
     binders: &mut [u64],
-    top: usize,
-    left: usize,
     depth: usize,
     sp: usize,
-    tv: usize,
-    dv: usize,
+    fresh: Fresh,
     r: usize,
     b: usize,
-) -> Inferred
-    requires base_len_bound { length base.now ≤ 4 * top }
-    requires ready_i { ReadyI 8 1 1 names.now (base.now ++ work.old) env.old order.now insts.now binders.old top left sp tv dv }
-    ensures { GivesI (AskedNamed src.now names.now index.now (base.now ++ work.old) classes.now methods.now insts.now env.old order.now top r b) (λ p. abs_body (λ u. infer_in depth p.0 u) (name_of names.now r) (tyvar_of names.now (first_fresh + tv)) p.1 (state_of names.now (base.now ++ work.old) env.old order.now (tv + 1) dv) left) 8 1 1 names.now (base.now ++ work.old) (base.now ++ work.new)
-        env.new order.now binders.old binders.new top left sp tv dv result }
+) -> Result<Typed, Refusal>
+    requires base_len_bound { length base.words.now ≤ 4 * room.old.top }
+    requires ready_i { ReadyI 8 1 1 base.names.now (base.words.now ++ work.old) env.old order.now rules.insts.now binders.old room.old.top room.old.left sp fresh.tv fresh.dv }
+    ensures { GivesI (AskedNamed file.entry.src.now base.entry.names.now file.entry.index.now (base.entry.words.now ++ work.old) rules.entry.classes.now methods.now rules.entry.insts.now env.old order.now room.old.top r b) (λ p. abs_body (λ u. infer_in depth p.0 u) (name_of base.entry.names.now r) (tyvar_of base.entry.names.now (first_fresh + fresh.tv)) p.1 (state_of base.entry.names.now (base.entry.words.now ++ work.old) env.old order.now (fresh.tv + 1) fresh.dv) room.old.left) 8 1 1 base.entry.names.now (base.entry.words.now ++ work.old) (base.entry.words.now ++ work.new)
+        env.new order.now binders.old binders.new room.old.top room.old.left sp fresh.tv fresh.dv (inferred_of result room.new.top room.new.left) }
 {
     if r >= order.len() {
-        return Inferred::Refused(Refusal::Depth, top, left);
+        return Err(Refusal::Depth);
     }
-    let a = names::FRESH + tv;
+    let a = names::FRESH + fresh.tv;
+    let next = Fresh {
+        tv: fresh.tv + 1,
+        dv: fresh.dv,
+    };
     let old = scope::row_at(env, r);
-    scope::put(env, r, Entry::Local(ast::NIL, ast::NIL, a));
+    let plain = Scheme {
+        vars: ast::NIL,
+        preds: ast::NIL,
+        ty: a,
+    };
+    scope::put(env, r, Entry::Local(plain));
     abs_rest(
-        base,
-        work,
-        names,
-        src,
-        index,
-        classes,
-        methods,
-        insts,
-        order,
-        env,
-        binders,
-        top,
-        left,
-        depth,
-        sp,
-        tv + 1,
-        dv,
-        a,
-        r,
-        old,
-        b,
+        base, work, room, file, rules, methods, order, env, binders, depth, sp, next, a, r, old, b,
     )
 }
 
 // The body, and then the row as it was.
 #[cycle(app_app_arg_abs_abs_rest_infer_let_body_let_rest_binding_let_mid_onward)]
 fn abs_rest(
-    base: &[u64],
+    base: Base,
     work: &mut [u64],
-    names: &[u64],
-    src: &[u8],
-    index: &[u64],
-    classes: &[u64],
+    room: &mut Room,
+    file: File,
+    rules: Rules,
     methods: &[u64],
-    insts: &[u64],
     order: &[u64],
     env: &mut [u64],
     binders: &mut [u64],
-    top: usize,
-    left: usize,
     depth: usize,
     sp: usize,
-    tv: usize,
-    dv: usize,
+    fresh: Fresh,
     a: usize,
     r: usize,
     old: Entry,
     b: usize,
-) -> Inferred
-    requires base_len_bound { length base.now ≤ 4 * top }
-    requires ready_i { ReadyI 8 0 1 names.now (base.now ++ work.old) env.old order.now insts.now binders.old top left sp tv dv }
-    requires hidden { Hidden names.now (base.now ++ work.old) order.now top r old }
+) -> Result<Typed, Refusal>
+    requires base_len_bound { length base.words.now ≤ 4 * room.old.top }
+    requires ready_i { ReadyI 8 0 1 base.names.now (base.words.now ++ work.old) env.old order.now rules.insts.now binders.old room.old.top room.old.left sp fresh.tv fresh.dv }
+    requires hidden { Hidden base.names.now (base.words.now ++ work.old) order.now room.old.top r old }
     requires a_lt_first_nullary { a < first_nullary }
-    ensures { GivesI (Asked src.now names.now index.now (base.now ++ work.old) classes.now methods.now insts.now env.old order.now top b) (λ p. abs_rest (λ u. infer_in depth p.0 u) (name_of names.now r) (tyvar_of names.now a) (scheme_in names.now (base.now ++ work.old) old) p.1 (state_of names.now (base.now ++ work.old) env.old order.now tv dv) left) 8 0 1 names.now (base.now ++ work.old) (base.now ++ work.new)
-        env.new order.now binders.old binders.new top left sp tv dv result }
+    ensures { GivesI (Asked file.entry.src.now base.entry.names.now file.entry.index.now (base.entry.words.now ++ work.old) rules.entry.classes.now methods.now rules.entry.insts.now env.old order.now room.old.top b) (λ p. abs_rest (λ u. infer_in depth p.0 u) (name_of base.entry.names.now r) (tyvar_of base.entry.names.now a) (scheme_in base.entry.names.now (base.entry.words.now ++ work.old) old) p.1 (state_of base.entry.names.now (base.entry.words.now ++ work.old) env.old order.now fresh.tv fresh.dv) room.old.left) 8 0 1 base.entry.names.now (base.entry.words.now ++ work.old) (base.entry.words.now ++ work.new)
+        env.new order.now binders.old binders.new room.old.top room.old.left sp fresh.tv fresh.dv (inferred_of result room.new.top room.new.left) }
 {
-    let q = crate::infer(
-        base, work, names, src, index, classes, methods, insts, order, env, binders, top, left,
-        depth, sp, tv, dv, b,
-    );
-    match q {
-        Inferred::Done(t, e, k, m, t2, l2, tv2, dv2) => abs_end(
-            base, work, names, order, env, binders, t2, l2, sp, tv2, dv2, k, m, a, r, t, e, old,
-        ),
-        Inferred::Refused(e, t2, l2) => Inferred::Refused(e, t2, l2),
-    }
+    let body = crate::infer(
+        base, work, room, file, rules, methods, order, env, binders, depth, sp, fresh, b,
+    )?;
+    abs_end(
+        base, work, room, order, env, binders, sp, body.fresh, a, r, old, body,
+    )
 }
 
 // The end of an abstraction: the hidden row is put back, and nothing was applied to it.
 fn abs_end(
-    base: &[u64],
+    base: Base,
     work: &mut [u64],
-    names: &[u64],
+    room: &mut Room,
     order: &[u64],
     env: &mut [u64],
     binders: &[u64],
-    top: usize,
-    left: usize,
     sp: usize,
-    tv: usize,
-    dv: usize,
-    k: usize,
-    m: usize,
+    fresh: Fresh,
     a: usize,
     r: usize,
-    t: usize,
-    e: usize,
     old: Entry,
-) -> Inferred
-    requires base_len_bound { length base.now ≤ 4 * top }
-    requires ready_abs_end { ReadyAbsEnd names.now (base.now ++ work.old) env.old order.now binders.now top left sp t e k m a r old }
-    ensures { GivesI Nothing (λ _. restored_abs (name_of names.now r) (tyvar_of names.now a) (scheme_in names.now (base.now ++ work.old) old) (answer_of names.now (base.now ++ work.old) binders.now sp t e k m) (state_of names.now (base.now ++ work.old) env.old order.now tv dv) left) (2 * k + 8) 0 m names.now (base.now ++ work.old) (base.now ++ work.new)
-        env.new order.now binders.now binders.now top left sp tv dv result }
+    body: Typed,
+) -> Result<Typed, Refusal>
+    requires base_len_bound { length base.words.now ≤ 4 * room.old.top }
+    requires ready_abs_end { ReadyAbsEnd base.names.now (base.words.now ++ work.old) env.old order.now binders.now room.old.top room.old.left sp body.ty body.term body.pairs body.rows a r old }
+    ensures { GivesI Nothing (λ _. restored_abs (name_of base.entry.names.now r) (tyvar_of base.entry.names.now a) (scheme_in base.entry.names.now (base.entry.words.now ++ work.old) old) (answer_of base.entry.names.now (base.entry.words.now ++ work.old) binders.now sp body.ty body.term body.pairs body.rows) (state_of base.entry.names.now (base.entry.words.now ++ work.old) env.old order.now fresh.tv fresh.dv) room.old.left) (2 * body.pairs + 8) 0 body.rows base.entry.names.now (base.entry.words.now ++ work.old) (base.entry.words.now ++ work.new)
+        env.new order.now binders.now binders.now room.old.top room.old.left sp fresh.tv fresh.dv (inferred_of result room.new.top room.new.left) }
 {
     scope::put(env, r, old);
-    let c = inferred::abs_close(base, work, names, binders, top, left, sp, k, m, a, r, t, e);
-    inferred::with_state(c, m, tv, dv)
+    let c = inferred::abs_close(base, work, room, binders, sp, a, r, body)?;
+    Ok(c.with_state(body.rows, fresh))
 }

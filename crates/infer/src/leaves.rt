@@ -1,5 +1,5 @@
 // Names and literals: expressions without parts.
-ghost use Rattle.std.specs.Prelude.{[], ◌++◌, ◌*◌, ◌≤◌, length};
+ghost use Rattle.std.specs.Prelude.{[], ◌++◌, ◌*◌, ◌≤◌, length, Ok};
 ghost use Rattle.meaning.specs.Ast.{int, bool, cint, cbool};
 ghost use Rattle.meaning.specs.Subst.{empty};
 ghost use Rattle.meaning.specs.Infer.{infer_var};
@@ -7,92 +7,81 @@ ghost use Rattle.names.specs.Names.{name_of};
 ghost use Rattle.inferred.specs.Inferring.{state_of, ReadyI, GivesI};
 ghost use Rattle.infer.specs.Runs.{Nothing, literal};
 ghost use Rattle.infer.specs.Asking.{AskedName};
+ghost use Rattle.inferred.specs.Inferred.{inferred_of};
 
+use ast::{Base, Room};
 use errors::Refusal;
-use inferred::Inferred;
-use instantiate::Looked;
+use inferred::Typed;
+use resolve::Rules;
+use scope::{Env, Fresh};
 
 // `infer_var`: a name that is none of the table is in no file.
 pub fn name(
-    base: &[u64],
+    base: Base,
     work: &mut [u64],
-    names: &[u64],
-    classes: &[u64],
+    room: &mut Room,
+    rules: Rules,
     methods: &[u64],
-    insts: &[u64],
-    order: &[u64],
-    env: &[u64],
+    env: Env,
     binders: &mut [u64],
-    top: usize,
-    left: usize,
     sp: usize,
-    tv: usize,
-    dv: usize,
+    fresh: Fresh,
     x: usize,
-) -> Inferred
-    requires base_len_bound { length base.now ≤ 4 * top }
-    requires ready_i { ReadyI 0 0 0 names.now (base.now ++ work.old) env.now order.now insts.now binders.old top left sp tv dv }
-    ensures { GivesI (AskedName names.now (base.now ++ work.old) classes.now methods.now insts.now top x) (λ ce. infer_var ce (name_of names.now x) (state_of names.now (base.now ++ work.old) env.now order.now tv dv) left) 0 0 0 names.now (base.now ++ work.old) (base.now ++ work.new)
-        env.now order.now binders.old binders.new top left sp tv dv result }
+) -> Result<Typed, Refusal>
+    requires base_len_bound { length base.words.now ≤ 4 * room.old.top }
+    requires ready_i { ReadyI 0 0 0 base.names.now (base.words.now ++ work.old) env.rows.now env.order.now rules.insts.now binders.old room.old.top room.old.left sp fresh.tv fresh.dv }
+    ensures { GivesI (AskedName base.entry.names.now (base.entry.words.now ++ work.old) rules.entry.classes.now methods.now rules.entry.insts.now room.old.top x) (λ ce. infer_var ce (name_of base.entry.names.now x) (state_of base.entry.names.now (base.entry.words.now ++ work.old) env.entry.rows.now env.entry.order.now fresh.tv fresh.dv) room.old.left) 0 0 0 base.entry.names.now (base.entry.words.now ++ work.old) (base.entry.words.now ++ work.new)
+        env.entry.rows.now env.entry.order.now binders.old binders.new room.old.top room.old.left sp fresh.tv fresh.dv (inferred_of result room.new.top room.new.left) }
 {
-    if x >= order.len() {
-        return Inferred::Refused(Refusal::Depth, top, left);
+    if x >= env.order.len() {
+        return Err(Refusal::Depth);
     }
-    let q = instantiate::infer_var(
-        base, work, names, methods, env, order, binders, top, left, sp, tv, dv, x,
-    );
-    match q {
-        Looked::Done(u, e, m, t2, l2, tv2, dv2) => Inferred::Done(u, e, 0, m, t2, l2, tv2, dv2),
-        Looked::Refused(e, t2, l2) => Inferred::Refused(e, t2, l2),
-    }
+    let u = instantiate::infer_var(base, work, room, methods, env, binders, sp, fresh, x)?;
+    Ok(Typed {
+        ty: u.ty,
+        term: u.term,
+        pairs: 0,
+        rows: u.rows,
+        fresh: u.fresh,
+    })
 }
 
 // A literal: its type, and its term.
 pub fn number(
-    base: &[u64],
+    base: Base,
     work: &mut [u64],
-    names: &[u64],
+    room: &mut Room,
     insts: &[u64],
-    order: &[u64],
-    env: &[u64],
+    env: Env,
     binders: &[u64],
-    top: usize,
-    left: usize,
     sp: usize,
-    tv: usize,
-    dv: usize,
+    fresh: Fresh,
     v: usize,
-) -> Inferred
-    requires base_len_bound { length base.now ≤ 4 * top }
-    requires ready_i { ReadyI 8 0 0 names.now (base.now ++ work.old) env.now order.now insts.now binders.now top left sp tv dv }
-    ensures { GivesI Nothing (λ _. literal (empty, int, [], cint v) (state_of names.now (base.now ++ work.old) env.now order.now tv dv) left) 8 0 0 names.now (base.now ++ work.old) (base.now ++ work.new)
-        env.now order.now binders.now binders.now top left sp tv dv result }
+) -> Typed
+    requires base_len_bound { length base.words.now ≤ 4 * room.old.top }
+    requires ready_i { ReadyI 8 0 0 base.names.now (base.words.now ++ work.old) env.rows.now env.order.now insts.now binders.now room.old.top room.old.left sp fresh.tv fresh.dv }
+    ensures { GivesI Nothing (λ _. literal (empty, int, [], cint v) (state_of base.entry.names.now (base.entry.words.now ++ work.old) env.entry.rows.now env.entry.order.now fresh.tv fresh.dv) room.old.left) 8 0 0 base.entry.names.now (base.entry.words.now ++ work.old) (base.entry.words.now ++ work.new)
+        env.entry.rows.now env.entry.order.now binders.now binders.now room.old.top room.old.left sp fresh.tv fresh.dv (inferred_of (Ok result) room.new.top room.new.left) }
 {
-    let c = inferred::int_literal(base, work, names, binders, top, left, sp, v);
-    inferred::with_state(c, 0, tv, dv)
+    inferred::int_literal(base, work, room, binders, sp, v).with_state(0, fresh)
 }
 
 // A literal: its type, and its term.
 pub fn truth(
-    base: &[u64],
+    base: Base,
     work: &[u64],
-    names: &[u64],
+    room: Room,
     insts: &[u64],
-    order: &[u64],
-    env: &[u64],
+    env: Env,
     binders: &[u64],
-    top: usize,
-    left: usize,
     sp: usize,
-    tv: usize,
-    dv: usize,
+    fresh: Fresh,
     b: bool,
-) -> Inferred
-    requires base_len_bound { length base.now ≤ 4 * top }
-    requires ready_i { ReadyI 8 0 0 names.now (base.now ++ work.now) env.now order.now insts.now binders.now top left sp tv dv }
-    ensures { GivesI Nothing (λ _. literal (empty, bool, [], cbool b) (state_of names.now (base.now ++ work.now) env.now order.now tv dv) left) 8 0 0 names.now (base.now ++ work.now) (base.now ++ work.now)
-        env.now order.now binders.now binders.now top left sp tv dv result }
+) -> Typed
+    requires base_len_bound { length base.words.now ≤ 4 * room.top }
+    requires ready_i { ReadyI 8 0 0 base.names.now (base.words.now ++ work.now) env.rows.now env.order.now insts.now binders.now room.top room.left sp fresh.tv fresh.dv }
+    ensures { GivesI Nothing (λ _. literal (empty, bool, [], cbool b) (state_of base.entry.names.now (base.entry.words.now ++ work.now) env.entry.rows.now env.entry.order.now fresh.tv fresh.dv) room.left) 8 0 0 base.entry.names.now (base.entry.words.now ++ work.now) (base.entry.words.now ++ work.now)
+        env.entry.rows.now env.entry.order.now binders.now binders.now room.top room.left sp fresh.tv fresh.dv (inferred_of (Ok result) room.top room.left) }
 {
-    let c = inferred::bool_literal(base, work, names, binders, top, left, sp, b);
-    inferred::with_state(c, 0, tv, dv)
+    inferred::bool_literal(base, work, room, binders, sp, b).with_state(0, fresh)
 }

@@ -8,92 +8,91 @@ ghost use Rattle.inferred.specs.Inferring.{state_of, ReadyI, GivesI};
 ghost use Rattle.infer.specs.Runs.{inferred_then};
 ghost use Rattle.binding.specs.General.{ReadyMid};
 ghost use Rattle.infer.specs.Asking.{AskedLet, AskedMid};
+ghost use Rattle.inferred.specs.Inferred.{inferred_of};
 
-use generalize::Generalized;
-use inferred::Inferred;
+use ast::{Base, Room};
+use errors::Refusal;
+use inferred::Typed;
+use resolve::Rules;
+use scope::Fresh;
+use views::File;
 
 // `infer_let`: what is bound first.
 #[cycle(app_app_arg_abs_abs_rest_infer_let_body_let_rest_binding_let_mid_onward)]
 pub fn binding(
-    base: &[u64],
+    base: Base,
     work: &mut [u64],
-    names: &[u64],
-    src: &[u8],
-    index: &[u64],
-    classes: &[u64],
+    room: &mut Room,
+    file: File,
+    rules: Rules,
     methods: &[u64],
-    insts: &[u64],
     order: &[u64],
     env: &mut [u64],
     binders: &mut [u64],
-    top: usize,
-    left: usize,
     depth: usize,
     sp: usize,
-    tv: usize,
-    dv: usize,
+    fresh: Fresh,
     r: usize,
     b: usize,
     f: usize,
-) -> Inferred
-    requires base_len_bound { length base.now ≤ 4 * top }
-    requires ready_i { ReadyI 8 0 1 names.now (base.now ++ work.old) env.old order.now insts.now binders.old top left sp tv dv }
-    ensures { GivesI (AskedLet src.now names.now index.now (base.now ++ work.old) classes.now methods.now insts.now env.old order.now top r b f) (λ p. inferred_then (infer_in depth p.0 p.1) (λ r₁. let_mid p.0 (λ u. infer_in depth p.0 u) (name_of names.now r) r₁ p.2) (state_of names.now (base.now ++ work.old) env.old order.now tv dv) left) 8 0 1 names.now (base.now ++ work.old) (base.now ++ work.new)
-        env.new order.now binders.old binders.new top left sp tv dv result }
+) -> Result<Typed, Refusal>
+    requires base_len_bound { length base.words.now ≤ 4 * room.old.top }
+    requires ready_i { ReadyI 8 0 1 base.names.now (base.words.now ++ work.old) env.old order.now rules.insts.now binders.old room.old.top room.old.left sp fresh.tv fresh.dv }
+    ensures { GivesI (AskedLet file.entry.src.now base.entry.names.now file.entry.index.now (base.entry.words.now ++ work.old) rules.entry.classes.now methods.now rules.entry.insts.now env.old order.now room.old.top r b f) (λ p. inferred_then (infer_in depth p.0 p.1) (λ r₁. let_mid p.0 (λ u. infer_in depth p.0 u) (name_of base.entry.names.now r) r₁ p.2) (state_of base.entry.names.now (base.entry.words.now ++ work.old) env.old order.now fresh.tv fresh.dv) room.old.left) 8 0 1 base.entry.names.now (base.entry.words.now ++ work.old) (base.entry.words.now ++ work.new)
+        env.new order.now binders.old binders.new room.old.top room.old.left sp fresh.tv fresh.dv (inferred_of result room.new.top room.new.left) }
 {
-    let q = crate::infer(
-        base, work, names, src, index, classes, methods, insts, order, env, binders, top, left,
-        depth, sp, tv, dv, b,
-    );
-    match q {
-        Inferred::Done(t, e, k, m, t2, l2, tv2, dv2) => let_mid(
-            base, work, names, src, index, classes, methods, insts, order, env, binders, t2, l2,
-            depth, sp, tv2, dv2, r, t, e, k, m, f,
-        ),
-        Inferred::Refused(e, t2, l2) => Inferred::Refused(e, t2, l2),
-    }
+    let bound = crate::infer(
+        base, work, room, file, rules, methods, order, env, binders, depth, sp, fresh, b,
+    )?;
+    let next = bound.fresh;
+    let_mid(
+        base, work, room, file, rules, methods, order, env, binders, depth, sp, next, r, bound, f,
+    )
 }
 
 // What is bound is generalized; then the body.
 #[cycle(app_app_arg_abs_abs_rest_infer_let_body_let_rest_binding_let_mid_onward)]
 fn let_mid(
-    base: &[u64],
+    base: Base,
     work: &mut [u64],
-    names: &[u64],
-    src: &[u8],
-    index: &[u64],
-    classes: &[u64],
+    room: &mut Room,
+    file: File,
+    rules: Rules,
     methods: &[u64],
-    insts: &[u64],
     order: &[u64],
     env: &mut [u64],
     binders: &mut [u64],
-    top: usize,
-    left: usize,
     depth: usize,
     sp: usize,
-    tv: usize,
-    dv: usize,
+    fresh: Fresh,
     r: usize,
-    t: usize,
-    e: usize,
-    k: usize,
-    m: usize,
+    bound: Typed,
     f: usize,
-) -> Inferred
-    requires base_len_bound { length base.now ≤ 4 * top }
-    requires ready_mid { ReadyMid names.now (base.now ++ work.old) env.old order.now insts.now binders.old top left sp tv dv t e k m }
-    ensures { GivesI (AskedMid src.now names.now index.now (base.now ++ work.old) classes.now methods.now insts.now env.old order.now top r f (answer_of names.now (base.now ++ work.old) binders.old sp t e k m) (state_of names.now (base.now ++ work.old) env.old order.now tv dv)) (λ p. let_mid p.0 (λ u. infer_in depth p.0 u) (name_of names.now r) (answer_of names.now (base.now ++ work.old) binders.old sp t e k m) p.1 (state_of names.now (base.now ++ work.old) env.old order.now tv dv) left) (2 * k + 8) 0 m names.now (base.now ++ work.old) (base.now ++ work.new)
-        env.new order.now binders.old binders.new top left sp tv dv result }
+) -> Result<Typed, Refusal>
+    requires base_len_bound { length base.words.now ≤ 4 * room.old.top }
+    requires ready_mid { ReadyMid base.names.now (base.words.now ++ work.old) env.old order.now rules.insts.now binders.old room.old.top room.old.left sp fresh.tv fresh.dv bound.ty bound.term bound.pairs bound.rows }
+    ensures { GivesI (AskedMid file.entry.src.now base.entry.names.now file.entry.index.now (base.entry.words.now ++ work.old) rules.entry.classes.now methods.now rules.entry.insts.now env.old order.now room.old.top r f (answer_of base.entry.names.now (base.entry.words.now ++ work.old) binders.old sp bound.ty bound.term bound.pairs bound.rows) (state_of base.entry.names.now (base.entry.words.now ++ work.old) env.old order.now fresh.tv fresh.dv)) (λ p. let_mid p.0 (λ u. infer_in depth p.0 u) (name_of base.entry.names.now r) (answer_of base.entry.names.now (base.entry.words.now ++ work.old) binders.old sp bound.ty bound.term bound.pairs bound.rows) p.1 (state_of base.entry.names.now (base.entry.words.now ++ work.old) env.old order.now fresh.tv fresh.dv) room.old.left) (2 * bound.pairs + 8) 0 bound.rows base.entry.names.now (base.entry.words.now ++ work.old) (base.entry.words.now ++ work.new)
+        env.new order.now binders.old binders.new room.old.top room.old.left sp fresh.tv fresh.dv (inferred_of result room.new.top room.new.left) }
 {
     let g = binding::general(
-        base, work, names, classes, insts, order, env, binders, top, left, sp, tv, dv, k, m, t, e,
-    );
-    match g {
-        Generalized::Done(vs, ps, u, c, nd, t2, l2) => crate::inside::let_body(
-            base, work, names, src, index, classes, methods, insts, order, env, binders, t2, l2,
-            depth, sp, tv, dv, r, vs, ps, u, c, nd, k, f,
-        ),
-        Generalized::Refused(e, t2, l2) => Inferred::Refused(e, t2, l2),
-    }
+        base, work, room, rules, order, env, binders, sp, fresh, bound,
+    )?;
+    crate::inside::let_body(
+        base,
+        work,
+        room,
+        file,
+        rules,
+        methods,
+        order,
+        env,
+        binders,
+        depth,
+        sp,
+        fresh,
+        r,
+        g,
+        bound.pairs,
+        f,
+    )
 }

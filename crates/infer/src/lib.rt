@@ -11,121 +11,134 @@ ghost use Rattle.std.specs.Prelude.{◌++◌, ◌*◌, ◌≤◌, length, drop};
 ghost use Rattle.meaning.specs.Infer.{infer_in};
 ghost use Rattle.inferred.specs.Inferring.{state_of, ReadyI, GivesI};
 ghost use Rattle.infer.specs.Asking.{Asked, GivesO};
+ghost use Rattle.inferred.specs.Inferred.{inferred_of};
 
+use ast::{Base, Room};
 use errors::Refusal;
 use exprs::Node;
-use inferred::Inferred;
+use inferred::Typed;
+use resolve::Rules;
+use scope::{Env, Fresh};
+use views::File;
 
 // `infer_expr` with so much depth left: expression i of the file.
 #[cycle(app_app_arg_abs_abs_rest_infer_let_body_let_rest_binding_let_mid_onward)]
 pub fn infer(
-    base: &[u64],
+    base: Base,
     work: &mut [u64],
-    names: &[u64],
-    src: &[u8],
-    index: &[u64],
-    classes: &[u64],
+    room: &mut Room,
+    file: File,
+    rules: Rules,
     methods: &[u64],
-    insts: &[u64],
     order: &[u64],
     env: &mut [u64],
     binders: &mut [u64],
-    top: usize,
-    left: usize,
     depth: usize,
     sp: usize,
-    tv: usize,
-    dv: usize,
+    fresh: Fresh,
     i: usize,
-) -> Inferred
-    requires base_len_bound { length base.now ≤ 4 * top }
-    requires ready_i { ReadyI 0 0 0 names.now (base.now ++ work.old) env.old order.now insts.now binders.old top left sp tv dv }
-    ensures { GivesI (Asked src.now names.now index.now (base.now ++ work.old) classes.now methods.now insts.now env.old order.now top i) (λ p. infer_in depth p.0 p.1 (state_of names.now (base.now ++ work.old) env.old order.now tv dv) left) 0 0 0 names.now (base.now ++ work.old) (base.now ++ work.new)
-        env.new order.now binders.old binders.new top left sp tv dv result }
+) -> Result<Typed, Refusal>
+    requires base_len_bound { length base.words.now ≤ 4 * room.old.top }
+    requires ready_i { ReadyI 0 0 0 base.names.now (base.words.now ++ work.old) env.old order.now rules.insts.now binders.old room.old.top room.old.left sp fresh.tv fresh.dv }
+    ensures { GivesI (Asked file.entry.src.now base.entry.names.now file.entry.index.now (base.entry.words.now ++ work.old) rules.entry.classes.now methods.now rules.entry.insts.now env.old order.now room.old.top i) (λ p. infer_in depth p.0 p.1 (state_of base.entry.names.now (base.entry.words.now ++ work.old) env.old order.now fresh.tv fresh.dv) room.old.left) 0 0 0 base.entry.names.now (base.entry.words.now ++ work.old) (base.entry.words.now ++ work.new)
+        env.new order.now binders.old binders.new room.old.top room.old.left sp fresh.tv fresh.dv (inferred_of result room.new.top room.new.left) }
 {
     if depth == 0 {
-        return Inferred::Refused(Refusal::Depth, top, left);
+        return Err(Refusal::Depth);
     }
-    if left == 0 {
-        return Inferred::Refused(Refusal::Steps, top, 0);
+    if room.left == 0 {
+        return Err(Refusal::Steps);
     }
+    let Some(x) = exprs::expr_at(file, i) else {
+        return Err(Refusal::Depth);
+    };
     let d = depth - 1;
-    let l = left - 1;
-    let x = exprs::expr_at(src, index, i);
+    room.left -= 1;
     match x {
         Node::Var(r) => leaves::name(
-            base, work, names, classes, methods, insts, order, env, binders, top, l, sp, tv, dv, r,
+            base,
+            work,
+            room,
+            rules,
+            methods,
+            Env { rows: env, order },
+            binders,
+            sp,
+            fresh,
+            r,
         ),
-        Node::Int(v) => leaves::number(
-            base, work, names, insts, order, env, binders, top, l, sp, tv, dv, v,
-        ),
-        Node::Bool(b) => leaves::truth(
-            base, work, names, insts, order, env, binders, top, l, sp, tv, dv, b,
-        ),
+        Node::Int(v) => Ok(leaves::number(
+            base,
+            work,
+            room,
+            rules.insts,
+            Env { rows: env, order },
+            binders,
+            sp,
+            fresh,
+            v,
+        )),
+        Node::Bool(b) => Ok(leaves::truth(
+            base,
+            work,
+            *room,
+            rules.insts,
+            Env { rows: env, order },
+            binders,
+            sp,
+            fresh,
+            b,
+        )),
         Node::Abs(r, b) => functions::abs(
-            base, work, names, src, index, classes, methods, insts, order, env, binders, top, l, d,
-            sp, tv, dv, r, b,
+            base, work, room, file, rules, methods, order, env, binders, d, sp, fresh, r, b,
         ),
         Node::App(f, a) => calls::app(
-            base, work, names, src, index, classes, methods, insts, order, env, binders, top, l, d,
-            sp, tv, dv, f, a,
+            base, work, room, file, rules, methods, order, env, binders, d, sp, fresh, f, a,
         ),
         Node::Let(r, a, b) => lets::binding(
-            base, work, names, src, index, classes, methods, insts, order, env, binders, top, l, d,
-            sp, tv, dv, r, a, b,
+            base, work, room, file, rules, methods, order, env, binders, d, sp, fresh, r, a, b,
         ),
-        Node::Nothing => Inferred::Refused(Refusal::Depth, top, left),
     }
 }
 
 // Expression i, with its rows from number m on.
 #[cycle(app_app_arg_abs_abs_rest_infer_let_body_let_rest_binding_let_mid_onward)]
 pub fn onward(
-    base: &[u64],
+    base: Base,
     work: &mut [u64],
-    names: &[u64],
-    src: &[u8],
-    index: &[u64],
-    classes: &[u64],
+    room: &mut Room,
+    file: File,
+    rules: Rules,
     methods: &[u64],
-    insts: &[u64],
     order: &[u64],
     env: &mut [u64],
     binders: &mut [u64],
-    top: usize,
-    left: usize,
     depth: usize,
     sp: usize,
-    tv: usize,
-    dv: usize,
+    fresh: Fresh,
     m: usize,
     i: usize,
-) -> Inferred
-    requires base_len_bound { length base.now ≤ 4 * top }
+) -> Result<Typed, Refusal>
+    requires base_len_bound { length base.words.now ≤ 4 * room.old.top }
     requires m_in_bounds { 3 * m ≤ length binders.old }
-    requires ready_i { ReadyI 0 0 0 names.now (base.now ++ work.old) env.old order.now insts.now (drop (3 * m) binders.old) top left sp tv dv }
-    ensures { GivesO (Asked src.now names.now index.now (base.now ++ work.old) classes.now methods.now insts.now env.old order.now top i) (λ p. infer_in depth p.0 p.1 (state_of names.now (base.now ++ work.old) env.old order.now tv dv) left) names.now (base.now ++ work.old) (base.now ++ work.new)
-        env.new order.now binders.old binders.new top left sp tv dv m result }
+    requires ready_i { ReadyI 0 0 0 base.names.now (base.words.now ++ work.old) env.old order.now rules.insts.now (drop (3 * m) binders.old) room.old.top room.old.left sp fresh.tv fresh.dv }
+    ensures { GivesO (Asked file.entry.src.now base.entry.names.now file.entry.index.now (base.entry.words.now ++ work.old) rules.entry.classes.now methods.now rules.entry.insts.now env.old order.now room.old.top i) (λ p. infer_in depth p.0 p.1 (state_of base.entry.names.now (base.entry.words.now ++ work.old) env.old order.now fresh.tv fresh.dv) room.old.left) base.entry.names.now (base.entry.words.now ++ work.old) (base.entry.words.now ++ work.new)
+        env.new order.now binders.old binders.new room.old.top room.old.left sp fresh.tv fresh.dv m (inferred_of result room.new.top room.new.left) }
 {
     let from = 3 * m;
     infer(
         base,
         work,
-        names,
-        src,
-        index,
-        classes,
+        room,
+        file,
+        rules,
         methods,
-        insts,
         order,
         env,
         &mut binders[from..],
-        top,
-        left,
         depth,
         sp,
-        tv,
-        dv,
+        fresh,
         i,
     )
 }

@@ -25,16 +25,16 @@ use Rattle.supers.specs.declared.rows.Row.{Row}
 use Rattle.supers.specs.declared.rows.Row.TheVariants.{Pending as P-Row, Replaced}
 use Rattle.supers.proofs.RowLaws.{kept_rows}
 use Rattle.ends.specs.Ends as E
-use Rattle.ends.specs.declared.Ended.{Ended}
-use Rattle.ends.specs.declared.Ended.TheVariants.{Done as E-Done, Refused as E-Refused}
+use Rattle.ends.specs.Ended.{Ended}
+use Rattle.ends.specs.Ended.{Done as E-Done, Refused as E-Refused}
 use Rattle.pending.specs.Rows.{PendingRow, PendingRows}
 use Rattle.pending.specs.Swept.{ReadySweep, RowsSwept, GivesRows}
-use Rattle.pending.specs.declared.Swept.{Swept}
-use Rattle.pending.specs.declared.Swept.TheVariants.{Done as S-Done, Refused as S-Refused}
+use Rattle.pending.specs.Swept.{Swept}
+use Rattle.pending.specs.Swept.{Done as S-Done, Refused as S-Refused}
 use Rattle.inferred.specs.Parts.{abs_close, app_rows}
 use Rattle.inferred.specs.Closing.{Region, answer_of, ReadyAbs, ReadyLast, AnswerC, GivesC}
-use Rattle.inferred.specs.declared.Closed.{Closed}
-use Rattle.inferred.specs.declared.Closed.TheVariants.{Done, Refused}
+use Rattle.inferred.specs.Closed.{Closed}
+use Rattle.inferred.specs.Closed.{Done, Refused}
 use Rattle.compose.proofs.Hand.{after-after}
 
 -- ## Words that stand

@@ -20,14 +20,14 @@ use Rattle.cores.specs.Terms.{core}
 use Rattle.cores.proofs.TermLaws.{kept_core}
 use Rattle.supers.specs.Rows.{binders_in}
 use Rattle.ends.specs.Ends as E
-use Rattle.ends.specs.declared.Joined.{Joined}
-use Rattle.ends.specs.declared.Joined.TheVariants.{Done as J-Done, Refused as J-Refused}
+use Rattle.ends.specs.Joined.{Joined}
+use Rattle.ends.specs.Joined.{Done as J-Done, Refused as J-Refused}
 use Rattle.pending.proofs.Sweeps.{prefixed, pending_split}
 use Rattle.pending.proofs.Loops.{binders_split}
 use Rattle.inferred.specs.Parts.{app_last, app_rows, app_close}
 use Rattle.inferred.specs.Closing.{answer_from, answer_of, ReadyLast, ReadyApp, GivesC}
-use Rattle.inferred.specs.declared.Closed.{Closed}
-use Rattle.inferred.specs.declared.Closed.TheVariants.{Refused}
+use Rattle.inferred.specs.Closed.{Closed}
+use Rattle.inferred.specs.Closed.{Refused}
 use Rattle.compose.proofs.Hand.{after-after}
 use Rattle.inferred.proofs.Cuts.{after_same}
 use Rattle.inferred.proofs.Ends.{rows_later, rows_same, closed_answer}

@@ -16,8 +16,8 @@ use Rattle.ast.proofs.NewNode.{Pushed}
 use Rattle.errors.specs.declared.Refusal.{Refusal}
 use Rattle.pairs.specs.Pairs.{sub_at, Stands}
 use Rattle.pairs.proofs.Frames.{stands_then, stands_up, sub_stands}
-use Rattle.apply.specs.declared.Applied.{Applied}
-use Rattle.apply.specs.declared.Applied.TheVariants.{Done as A-Done, Refused as A-Refused}
+use Rattle.apply.specs.Applied.{Applied}
+use Rattle.apply.specs.Applied.{Done as A-Done, Refused as A-Refused}
 use Rattle.apply.proofs.Hand.{Then, then_done, refuse_on}
 use Rattle.compose.specs.Compose.{Both, GivesSub}
 use Rattle.compose.specs.Answers.{GivesU, ReadyJoin}
@@ -31,14 +31,14 @@ use Rattle.supers.specs.Rows.{row_at, binders_in}
 use Rattle.reduce.proofs.Marks.{row_same}
 use Rattle.pending.specs.Rows.{PendingRow, PendingRows}
 use Rattle.pending.specs.Swept.{ReadySweep, RowsSwept, GivesRows}
-use Rattle.pending.specs.declared.Swept.{Swept}
-use Rattle.pending.specs.declared.Swept.TheVariants.{Done as S-Done, Refused as S-Refused}
+use Rattle.pending.specs.Swept.{Swept}
+use Rattle.pending.specs.Swept.{Done as S-Done, Refused as S-Refused}
 use Rattle.simplify.proofs.RowSets.{same_rows}
 use Rattle.pending.proofs.Loops.{binders_split}
 use Rattle.inferred.specs.Parts.{let_last, let_close}
 use Rattle.inferred.specs.Closing.{answer_from, ReadyLet, GivesC}
-use Rattle.inferred.specs.declared.Closed.{Closed}
-use Rattle.inferred.specs.declared.Closed.TheVariants.{Done, Refused}
+use Rattle.inferred.specs.Closed.{Closed}
+use Rattle.inferred.specs.Closed.{Done, Refused}
 use Rattle.inferred.proofs.Ends.{row_later, rows_later, row_type, rows_same, region_later, closed_answer}
 
 module _ {ns w bs : List ℕ} {top left sp k₁ c t e k₂ nd m : ℕ} (R : ReadyLet ns w bs top left sp k₁ c t e k₂ nd m) where

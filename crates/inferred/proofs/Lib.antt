@@ -3,3 +3,4 @@ pub mod Ends
 pub mod Joins
 pub mod Lets
 pub mod Literals
+pub mod Seen

@@ -24,7 +24,7 @@ use Rattle.cores.proofs.NewTerm.{four_stands, push_number}
 use Rattle.supers.specs.Rows.{binders_from}
 use Rattle.pending.specs.Rows.{PendingRows}
 use Rattle.inferred.specs.Closing.{Region, answer_of, ReadyLiteral, GivesC}
-use Rattle.inferred.specs.declared.Closed.TheVariants.{Done}
+use Rattle.inferred.specs.Closed.{Done}
 
 -- The names of the two types.
 pub two_types : {ns : List ℕ} → BuiltIns ns → BuiltIn ns

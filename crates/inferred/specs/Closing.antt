@@ -12,8 +12,8 @@ use Rattle.pairs.specs.Pairs.{sub_at, Sub, Stands}
 use Rattle.cores.specs.Terms.{core}
 use Rattle.supers.specs.Rows.{binders_in}
 use Rattle.pending.specs.Rows.{PendingRows}
-use Rattle.inferred.specs.declared.Closed.{Closed}
-use Rattle.inferred.specs.declared.Closed.TheVariants.{Done, Refused}
+use Rattle.inferred.specs.Closed.{Closed}
+use Rattle.inferred.specs.Closed.{Done, Refused}
 
 -- ## Words of an answer
 

@@ -14,10 +14,10 @@ use Rattle.classes.specs.Method.{Methods}
 use Rattle.resolve.specs.Resolves.{Declared}
 use Rattle.scope.specs.Scope.{Scope, env_of}
 use Rattle.inferred.specs.Closing.{Answered, answer_of}
-use Rattle.inferred.specs.declared.Closed.{Closed}
-use Rattle.inferred.specs.declared.Closed.TheVariants.{Done as C-Done, Refused as C-Refused}
-use Rattle.inferred.specs.declared.Inferred.{Inferred}
-use Rattle.inferred.specs.declared.Inferred.TheVariants.{Done, Refused}
+use Rattle.inferred.specs.Closed.{Closed}
+use Rattle.inferred.specs.Closed.{Done as C-Done, Refused as C-Refused}
+use Rattle.inferred.specs.Inferred.{Inferred}
+use Rattle.inferred.specs.Inferred.{Done, Refused}
 
 -- The state that environment rows and counters stand for.
 abbrev pub state_of : List ℕ → List ℕ → List ℕ → List ℕ → ℕ → ℕ → M.State

@@ -1,7 +1,7 @@
 // What inference answers, and the ends of `infer_abs`, `infer_app` and `infer_let` of 000 once their parts are inferred.
 #![tactic(auto)]
 
-ghost use Rattle.std.specs.Prelude.{◌≡◌, [], ◌++◌, ◌+◌, ◌*◌, ◌-◌, ◌≤◌, length};
+ghost use Rattle.std.specs.Prelude.{◌≡◌, ℕ, [], ◌++◌, ◌+◌, ◌*◌, ◌-◌, ◌≤◌, length, Ok};
 ghost use Rattle.meaning.specs.Ast.{int, bool, cint, cbool};
 ghost use Rattle.meaning.specs.Budget.{done};
 ghost use Rattle.meaning.specs.Subst.{empty};
@@ -13,237 +13,249 @@ ghost use Rattle.supers.specs.Rows.{binders_in};
 ghost use Rattle.inferred.specs.Parts.{abs_close, app_rows, app_close, let_last, let_close};
 ghost use Rattle.inferred.specs.Closing.{answer_from, answer_of, ReadyAbs, ReadyLast, ReadyApp, ReadyLet, ReadyLiteral, GivesC};
 ghost use Rattle.inferred.specs.Inferring.{with_state};
+ghost use Rattle.inferred.specs.Closed.{closed_of};
+ghost use Rattle.inferred.specs.Inferred.{inferred_of};
 
-use apply::Applied;
-use ends::{Ended, Joined};
+use ast::{Base, Room};
+use compose::Beside;
+use ends::Join;
 use errors::Refusal;
-use pending::Swept;
+use pairs::Subst;
+use scope::Fresh;
 
-// An expression's type and term, how many pairs that end where the stack ended, how many pending rows, the first free node,
-// the steps left and both counters; or a refusal with the first free node and the steps left.
+// What an expression comes to: its type, its term, how many pairs end where the stack ended, how many rows are pending, and
+// the next variable's and the next dictionary's number.
 #[derive(Clone, Copy)]
-pub enum Inferred {
-    Done(usize, usize, usize, usize, usize, usize, usize, usize),
-    Refused(Refusal, usize, usize),
+pub struct Typed {
+    pub ty: usize,
+    pub term: usize,
+    pub pairs: usize,
+    pub rows: usize,
+    pub fresh: Fresh,
 }
 
-// A type, a term, how many pairs, the first free node and the steps left: rows and counters are those of the parts.
+// What an end comes to: the rows are those of the parts.
 #[derive(Clone, Copy)]
-pub enum Closed {
-    Done(usize, usize, usize, usize, usize),
-    Refused(Refusal, usize, usize),
+pub struct Closing {
+    pub ty: usize,
+    pub term: usize,
+    pub pairs: usize,
 }
 
-// The end's answer with m pending rows and both counters.
-pub fn with_state(c: Closed, m: usize, tv: usize, dv: usize) -> Inferred
-    ensures { result ≡ with_state c m tv dv }
-{
-    match c {
-        Closed::Done(t, e, k, n, l) => Inferred::Done(t, e, k, m, n, l, tv, dv),
-        Closed::Refused(e, n, l) => Inferred::Refused(e, n, l),
+impl Closing {
+    // The same with so many pending rows and both counters: an expression's answer, whatever node and steps are left.
+    pub fn with_state(self, rows: usize, fresh: Fresh) -> Typed
+        ensures { (top left : ℕ) → inferred_of (Ok result) top left ≡ with_state (closed_of (Ok self) top left) rows fresh.tv fresh.dv }
+    {
+        Typed {
+            ty: self.ty,
+            term: self.term,
+            pairs: self.pairs,
+            rows,
+            fresh,
+        }
     }
 }
 
 // A number: its type, and a node for it.
 pub fn int_literal(
-    base: &[u64],
+    base: Base,
     work: &mut [u64],
-    names: &[u64],
+    room: &mut Room,
     binders: &[u64],
-    top: usize,
-    left: usize,
     sp: usize,
     v: usize,
-) -> Closed
-    requires base_len_bound { length base.now ≤ 4 * top }
-    requires ready_literal { ReadyLiteral names.now (base.now ++ work.old) binders.now top left sp }
-    ensures { GivesC (done (empty, int, [], cint v) left) 8 names.now (base.now ++ work.old) (base.now ++ work.new) binders.now binders.now top left sp 0 result }
+) -> Closing
+    requires base_len_bound { length base.words.now ≤ 4 * room.old.top }
+    requires ready_literal { ReadyLiteral base.names.now (base.words.now ++ work.old) binders.now room.old.top room.old.left sp }
+    ensures { GivesC (done (empty, int, [], cint v) room.old.left) 8 base.entry.names.now (base.entry.words.now ++ work.old) (base.entry.words.now ++ work.new) binders.now binders.now room.old.top room.old.left sp 0 (closed_of (Ok result) room.new.top room.new.left) }
 {
-    cores::push_int(base, work, top, v);
-    Closed::Done(names::NULLARY, names::NODE + top, 0, top + 1, left)
+    let term = cores::push_int(base, work, room, v);
+    Closing {
+        ty: names::NULLARY,
+        term,
+        pairs: 0,
+    }
 }
 
 // A truth value: its type, and its word.
 pub fn bool_literal(
-    base: &[u64],
+    base: Base,
     work: &[u64],
-    names: &[u64],
+    room: Room,
     binders: &[u64],
-    top: usize,
-    left: usize,
     sp: usize,
     b: bool,
-) -> Closed
-    requires base_len_bound { length base.now ≤ 4 * top }
-    requires ready_literal { ReadyLiteral names.now (base.now ++ work.now) binders.now top left sp }
-    ensures { GivesC (done (empty, bool, [], cbool b) left) 8 names.now (base.now ++ work.now) (base.now ++ work.now) binders.now binders.now top left sp 0 result }
+) -> Closing
+    requires base_len_bound { length base.words.now ≤ 4 * room.top }
+    requires ready_literal { ReadyLiteral base.names.now (base.words.now ++ work.now) binders.now room.top room.left sp }
+    ensures { GivesC (done (empty, bool, [], cbool b) room.left) 8 base.entry.names.now (base.entry.words.now ++ work.now) (base.entry.words.now ++ work.now) binders.now binders.now room.top room.left sp 0 (closed_of (Ok result) room.top room.left) }
 {
-    if b {
-        return Closed::Done(names::NULLARY + 1, names::NULLARY + 1, 0, top, left);
+    let word = if b {
+        names::NULLARY + 1
+    } else {
+        names::NULLARY
+    };
+    Closing {
+        ty: names::NULLARY + 1,
+        term: word,
+        pairs: 0,
     }
-    Closed::Done(names::NULLARY + 1, names::NULLARY, 0, top, left)
 }
 
-// The end of an abstraction: the body has the type t, the term e, k pairs and m pending rows.
+// The end of an abstraction of the parameter x, whose variable is a.
 pub fn abs_close(
-    base: &[u64],
+    base: Base,
     work: &mut [u64],
-    names: &[u64],
+    room: &mut Room,
     binders: &[u64],
-    top: usize,
-    left: usize,
     sp: usize,
-    k: usize,
-    m: usize,
     a: usize,
     x: usize,
-    t: usize,
-    e: usize,
-) -> Closed
-    requires base_len_bound { length base.now ≤ 4 * top }
-    requires ready_abs { ReadyAbs names.now (base.now ++ work.old) binders.now top left sp t e k m a }
-    ensures { GivesC (abs_close (name_of names.now x) (tyvar_of names.now a) (answer_of names.now (base.now ++ work.old) binders.now sp t e k m) left) (2 * k + 8)
-        names.now (base.now ++ work.old) (base.now ++ work.new) binders.now binders.now top left sp m result }
+    body: Typed,
+) -> Result<Closing, Refusal>
+    requires base_len_bound { length base.words.now ≤ 4 * room.old.top }
+    requires ready_abs { ReadyAbs base.names.now (base.words.now ++ work.old) binders.now room.old.top room.old.left sp body.ty body.term body.pairs body.rows a }
+    ensures { GivesC (abs_close (name_of base.entry.names.now x) (tyvar_of base.entry.names.now a) (answer_of base.entry.names.now (base.entry.words.now ++ work.old) binders.now sp body.ty body.term body.pairs body.rows) room.old.left) (2 * body.pairs + 8)
+        base.entry.names.now (base.entry.words.now ++ work.old) (base.entry.words.now ++ work.new) binders.now binders.now room.old.top room.old.left sp body.rows (closed_of result room.new.top room.new.left) }
 {
-    let r = ends::abs_end(base, work, names, top, left, sp, k, a, t, x, e);
-    match r {
-        Ended::Done(u, f, t2, l2) => Closed::Done(u, f, k, t2, l2),
-        Ended::Refused(e, t2, l2) => Closed::Refused(e, t2, l2),
-    }
+    let f = ends::abs_end(base, work, room, sp, body.pairs, a, body.ty, x, body.term)?;
+    Ok(Closing {
+        ty: f.ty,
+        term: f.term,
+        pairs: body.pairs,
+    })
 }
 
-// The end of an application whose types are joined: its k pairs applied to all m pending rows, and its term.
+// The end of an application whose types are joined: its pairs applied to all m pending rows, and its term.
 fn app_last(
-    base: &[u64],
+    base: Base,
     work: &mut [u64],
-    names: &[u64],
+    room: &mut Room,
     binders: &mut [u64],
-    top: usize,
-    left: usize,
+    sp: usize,
+    join: Join,
+    m: usize,
+    f: usize,
+    e: usize,
+) -> Result<Closing, Refusal>
+    requires base_len_bound { length base.words.now ≤ 4 * room.old.top }
+    requires ready_last { ReadyLast base.names.now (base.words.now ++ work.old) binders.old room.old.top room.old.left sp join.ty f e join.pairs m }
+    ensures { GivesC (app_rows (sub_at base.entry.names.now (base.entry.words.now ++ work.old) (sp - 2 * join.pairs) join.pairs) (tree base.entry.names.now (base.entry.words.now ++ work.old) join.ty) (binders_in base.entry.names.now (base.entry.words.now ++ work.old) binders.old 0 m) (core base.entry.names.now (base.entry.words.now ++ work.old) f) (core base.entry.names.now (base.entry.words.now ++ work.old) e) room.old.left) (2 * join.pairs + 4)
+        base.entry.names.now (base.entry.words.now ++ work.old) (base.entry.words.now ++ work.new) binders.old binders.new room.old.top room.old.left sp m (closed_of result room.new.top room.new.left) }
+{
+    let k = join.pairs;
+    let at = sp - 2 * k;
+    pending::apply_rows(base, work, room, binders, Subst { at, k }, m)?;
+    let term = cores::push_call(base, work, room, f, e);
+    Ok(Closing {
+        ty: join.ty,
+        term,
+        pairs: k,
+    })
+}
+
+// The end of an application: the argument's rows are all that are pending, the function's first, and its pairs lie below the
+// function's.
+pub fn app_close(
+    base: Base,
+    work: &mut [u64],
+    room: &mut Room,
+    binders: &mut [u64],
+    sp: usize,
+    a: usize,
+    function: Typed,
+    argument: Typed,
+) -> Result<Closing, Refusal>
+    requires base_len_bound { length base.words.now ≤ 4 * room.old.top }
+    requires ready_app { ReadyApp base.names.now (base.words.now ++ work.old) binders.old room.old.top room.old.left sp function.ty function.term function.pairs argument.ty argument.term argument.pairs function.rows argument.rows a }
+    ensures { GivesC (app_close (tyvar_of base.entry.names.now a) (answer_of base.entry.names.now (base.entry.words.now ++ work.old) binders.old sp function.ty function.term function.pairs function.rows)
+        (answer_from base.entry.names.now (base.entry.words.now ++ work.old) binders.old (sp - 2 * function.pairs) argument.ty argument.term argument.pairs function.rows argument.rows) room.old.left) (2 * function.pairs + 2 * argument.pairs + 8)
+        base.entry.names.now (base.entry.words.now ++ work.old) (base.entry.words.now ++ work.new) binders.old binders.new room.old.top room.old.left sp argument.rows (closed_of result room.new.top room.new.left) }
+{
+    let join = ends::app_end(
+        base,
+        work,
+        room,
+        sp,
+        function.pairs,
+        argument.pairs,
+        a,
+        function.ty,
+        argument.ty,
+    )?;
+    app_last(
+        base,
+        work,
+        room,
+        binders,
+        sp,
+        join,
+        argument.rows,
+        function.term,
+        argument.term,
+    )
+}
+
+// The end of a let whose deferred rows are applied to: all pairs composed, and its term.
+fn let_last(
+    base: Base,
+    work: &mut [u64],
+    room: &mut Room,
+    binders: &[u64],
     sp: usize,
     k: usize,
-    m: usize,
-    t: usize,
-    f: usize,
-    e: usize,
-) -> Closed
-    requires base_len_bound { length base.now ≤ 4 * top }
-    requires ready_last { ReadyLast names.now (base.now ++ work.old) binders.old top left sp t f e k m }
-    ensures { GivesC (app_rows (sub_at names.now (base.now ++ work.old) (sp - 2 * k) k) (tree names.now (base.now ++ work.old) t) (binders_in names.now (base.now ++ work.old) binders.old 0 m) (core names.now (base.now ++ work.old) f) (core names.now (base.now ++ work.old) e) left) (2 * k + 4)
-        names.now (base.now ++ work.old) (base.now ++ work.new) binders.old binders.new top left sp m result }
-{
-    let at = sp - 2 * k;
-    let r = pending::apply_rows(base, work, names, binders, top, left, at, k, m);
-    match r {
-        Swept::Done(t2, l2) => {
-            cores::push_call(base, work, t2, f, e);
-            Closed::Done(t, names::NODE + t2, k, t2 + 1, l2)
-        }
-        Swept::Refused(e, t2, l2) => Closed::Refused(e, t2, l2),
-    }
-}
-
-// The end of an application: function and argument have the types tf and tx, the terms f and e, k1 and k2 pairs, and m1 of the m
-// pending rows are the function's.
-pub fn app_close(
-    base: &[u64],
-    work: &mut [u64],
-    names: &[u64],
-    binders: &mut [u64],
-    top: usize,
-    left: usize,
-    sp: usize,
-    k1: usize,
-    k2: usize,
-    m1: usize,
-    m: usize,
-    a: usize,
-    tf: usize,
-    tx: usize,
-    f: usize,
-    e: usize,
-) -> Closed
-    requires base_len_bound { length base.now ≤ 4 * top }
-    requires ready_app { ReadyApp names.now (base.now ++ work.old) binders.old top left sp tf f k1 tx e k2 m1 m a }
-    ensures { GivesC (app_close (tyvar_of names.now a) (answer_of names.now (base.now ++ work.old) binders.old sp tf f k1 m1)
-        (answer_from names.now (base.now ++ work.old) binders.old (sp - 2 * k1) tx e k2 m1 m) left) (2 * k1 + 2 * k2 + 8)
-        names.now (base.now ++ work.old) (base.now ++ work.new) binders.old binders.new top left sp m result }
-{
-    let r = ends::app_end(base, work, names, top, left, sp, k1, k2, a, tf, tx);
-    match r {
-        Joined::Done(t, k, t2, l2) => app_last(
-            base, work, names, binders, t2, l2, sp, k, m, t, f, e,
-        ),
-        Joined::Refused(e, t2, l2) => Closed::Refused(e, t2, l2),
-    }
-}
-
-// The end of a let whose deferred rows are applied to: its pairs composed, and its term.
-fn let_last(
-    base: &[u64],
-    work: &mut [u64],
-    names: &[u64],
-    binders: &[u64],
-    top: usize,
-    left: usize,
-    sp: usize,
-    k1: usize,
-    k2: usize,
-    m: usize,
     x: usize,
     c: usize,
-    t: usize,
-    e: usize,
-) -> Closed
-    requires base_len_bound { length base.now ≤ 4 * top }
-    requires ready_let { ReadyLet names.now (base.now ++ work.old) binders.now top left sp k1 c t e k2 m m }
-    ensures { GivesC (let_last (name_of names.now x) (sub_at names.now (base.now ++ work.old) (sp - 2 * k1 - 2 * k2) k2) (sub_at names.now (base.now ++ work.old) (sp - 2 * k1) k1)
-        (tree names.now (base.now ++ work.old) t) (binders_in names.now (base.now ++ work.old) binders.now 0 m)
-        (core names.now (base.now ++ work.old) c) (core names.now (base.now ++ work.old) e) left) (2 * k1 + 2 * k2 + 4)
-        names.now (base.now ++ work.old) (base.now ++ work.new) binders.now binders.now top left sp m result }
+    body: Typed,
+) -> Result<Closing, Refusal>
+    requires base_len_bound { length base.words.now ≤ 4 * room.old.top }
+    requires ready_let { ReadyLet base.names.now (base.words.now ++ work.old) binders.now room.old.top room.old.left sp k c body.ty body.term body.pairs body.rows body.rows }
+    ensures { GivesC (let_last (name_of base.entry.names.now x) (sub_at base.entry.names.now (base.entry.words.now ++ work.old) (sp - 2 * k - 2 * body.pairs) body.pairs) (sub_at base.entry.names.now (base.entry.words.now ++ work.old) (sp - 2 * k) k)
+        (tree base.entry.names.now (base.entry.words.now ++ work.old) body.ty) (binders_in base.entry.names.now (base.entry.words.now ++ work.old) binders.now 0 body.rows)
+        (core base.entry.names.now (base.entry.words.now ++ work.old) c) (core base.entry.names.now (base.entry.words.now ++ work.old) body.term) room.old.left) (2 * k + 2 * body.pairs + 4)
+        base.entry.names.now (base.entry.words.now ++ work.old) (base.entry.words.now ++ work.new) binders.now binders.now room.old.top room.old.left sp body.rows (closed_of result room.new.top room.new.left) }
 {
-    let lo = sp - 2 * k1 - 2 * k2;
-    let r = compose::compose_in(base, work, names, top, left, lo, k2, k1);
-    match r {
-        Applied::Done(k, t2, l2) => {
-            cores::push_let(base, work, t2, x, c, e);
-            Closed::Done(t, names::NODE + t2, k, t2 + 1, l2)
-        }
-        Applied::Refused(e, t2, l2) => Closed::Refused(e, t2, l2),
-    }
+    let lo = sp - 2 * k - 2 * body.pairs;
+    let sides = Beside {
+        lo,
+        k2: body.pairs,
+        k1: k,
+    };
+    let pairs = compose::compose_in(base, work, room, sides)?;
+    let term = cores::push_let(base, work, room, x, c, body.term);
+    Ok(Closing {
+        ty: body.ty,
+        term,
+        pairs,
+    })
 }
 
-// The end of a let: what it binds has the term c, k1 pairs and nd deferred rows; its body the type t, the term e, k2 pairs and
-// the other rows, m in all.
+// The end of a let: what it binds has the term c, k pairs and nd deferred rows; the body's rows are all that are pending, these
+// first, and its pairs lie below the k.
 pub fn let_close(
-    base: &[u64],
+    base: Base,
     work: &mut [u64],
-    names: &[u64],
+    room: &mut Room,
     binders: &mut [u64],
-    top: usize,
-    left: usize,
     sp: usize,
-    k1: usize,
-    k2: usize,
+    k: usize,
     nd: usize,
-    m: usize,
     x: usize,
     c: usize,
-    t: usize,
-    e: usize,
-) -> Closed
-    requires base_len_bound { length base.now ≤ 4 * top }
-    requires ready_let { ReadyLet names.now (base.now ++ work.old) binders.old top left sp k1 c t e k2 nd m }
-    ensures { GivesC (let_close (name_of names.now x) (sub_at names.now (base.now ++ work.old) (sp - 2 * k1) k1) (core names.now (base.now ++ work.old) c) (binders_in names.now (base.now ++ work.old) binders.old 0 nd)
-        (answer_from names.now (base.now ++ work.old) binders.old (sp - 2 * k1) t e k2 nd m) left) (2 * k1 + 2 * k2 + 4)
-        names.now (base.now ++ work.old) (base.now ++ work.new) binders.old binders.new top left sp m result }
+    body: Typed,
+) -> Result<Closing, Refusal>
+    requires base_len_bound { length base.words.now ≤ 4 * room.old.top }
+    requires ready_let { ReadyLet base.names.now (base.words.now ++ work.old) binders.old room.old.top room.old.left sp k c body.ty body.term body.pairs nd body.rows }
+    ensures { GivesC (let_close (name_of base.entry.names.now x) (sub_at base.entry.names.now (base.entry.words.now ++ work.old) (sp - 2 * k) k) (core base.entry.names.now (base.entry.words.now ++ work.old) c) (binders_in base.entry.names.now (base.entry.words.now ++ work.old) binders.old 0 nd)
+        (answer_from base.entry.names.now (base.entry.words.now ++ work.old) binders.old (sp - 2 * k) body.ty body.term body.pairs nd body.rows) room.old.left) (2 * k + 2 * body.pairs + 4)
+        base.entry.names.now (base.entry.words.now ++ work.old) (base.entry.words.now ++ work.new) binders.old binders.new room.old.top room.old.left sp body.rows (closed_of result room.new.top room.new.left) }
 {
-    let lo = sp - 2 * k1 - 2 * k2;
-    let r = pending::apply_rows(base, work, names, binders, top, left, lo, k2, nd);
-    match r {
-        Swept::Done(t2, l2) => let_last(
-            base, work, names, binders, t2, l2, sp, k1, k2, m, x, c, t, e,
-        ),
-        Swept::Refused(e, t2, l2) => Closed::Refused(e, t2, l2),
-    }
+    let lo = sp - 2 * k - 2 * body.pairs;
+    let sub = Subst {
+        at: lo,
+        k: body.pairs,
+    };
+    pending::apply_rows(base, work, room, binders, sub, nd)?;
+    let_last(base, work, room, binders, sp, k, x, c, body)
 }

@@ -6,6 +6,7 @@ use mathlib.Core.Bool.{Bool, true, false}
 use mathlib.Core.List.{List}
 use mathlib.Core.Option.{Option, none, some}
 use lib.ListN.{length, get_or}
+use Rattle.std.specs.Prelude.{Option as Maybe, Some, None, Ok, is_some}
 use Rattle.meaning.specs.Ast.{Ty, pred}
 use Rattle.meaning.specs.Errors.{added}
 use Rattle.meaning.specs.Budget.{Out, done, settled}
@@ -21,18 +22,16 @@ use Rattle.errors.specs.Refusals.{Numbered, Refuses}
 use Rattle.errors.specs.declared.Refusal.{Refusal}
 use Rattle.pairs.specs.Pairs.{sub_at}
 use Rattle.pairs.proofs.Frames.{stands_refl, stands_then, stands_node}
-use Rattle.apply.specs.declared.Applied.{Applied}
-use Rattle.apply.specs.declared.Applied.TheVariants.{Done, Refused}
+use Rattle.apply.specs.Applied.{Applied}
+use Rattle.apply.specs.Applied.{Done, Refused}
 use Rattle.apply.proofs.Hand.{Then, then_done, refuse_on, refuse_same}
 use Rattle.compose.specs.Answers.{GrownU, GivesU, ReadyU}
 use Rattle.compose.proofs.Hand.{got, lost}
 use Rattle.matching.proofs.Heads.{names_same, names_not}
 use Rattle.instances.specs.Accepted.{Opened, head_of}
 use Rattle.instances.specs.Picks.{tried, clash, ReadyPick, Tries, TruthAs, Tests}
-use Rattle.instances.specs.declared.Tried.{Tried}
-use Rattle.instances.specs.declared.Tried.TheVariants.{Got, Failed, Limit}
-use Rattle.instances.specs.declared.Truth.{Truth}
-use Rattle.instances.specs.declared.Truth.TheVariants.{Yes, No, Refused as Truth-Refused}
+use Rattle.instances.specs.Tried.{Tried, Got, Failed, Limit, tried_of}
+use Rattle.instances.specs.Truth.{Truth, Yes, No, Refused as Truth-Refused, truth_of}
 use Rattle.instances.proofs.Held.{opened_head}
 
 -- ## try_match: G is what `match_ty` gave
@@ -125,6 +124,11 @@ module _ {ns w w₁ : List ℕ} {top left sp a b : ℕ} (R : ReadyU ns w top lef
   -- There is none.
   pub back_no : {l : ℕ} → r ≡ Failed l → Tests ns w w₁ top left sp (or_back none (tree ns w a) (tree ns w b) left) (No l)
   back_no h = record { stands = G.stands; answer = (then_done _ _ (back_then _ _ left) (match_failed G h).0, (match_failed G h).1) }
+
+  -- Either, by whether there is one.
+  pub back_told : {q : Bool} (x : Maybe ℕ) (t t' l : ℕ) → r ≡ tried_of (Ok x) t l → q ≡ is_some x → Tests ns w w₁ top left sp (or_back none (tree ns w a) (tree ns w b) left) (truth_of (Ok q) t' l)
+  back_told (Some k) t t' l h e = rw e (back_yes h)
+  back_told None t t' l h e = rw e (back_no h)
 
   -- It is refused.
   pub back_refused : {e : Refusal} {t l : ℕ} → r ≡ Limit e t l → Tests ns w w₁ top left sp (or_back none (tree ns w a) (tree ns w b) left) (Truth-Refused e t l)

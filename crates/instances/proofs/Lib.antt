@@ -1,3 +1,4 @@
+pub mod Seen
 pub mod Held
 pub mod Attempts
 pub mod Loops

@@ -24,12 +24,12 @@ use Rattle.apply.proofs.Hand.{Then, then_done, refuse_on, is_then}
 use Rattle.compose.specs.Answers.{GrownU}
 use Rattle.instances.specs.Accepted.{Instances, head_of}
 use Rattle.instances.specs.Picks.{tried, clash, ReadyPick, Tries, GivesPick, Tests, GivesApart}
-use Rattle.instances.specs.declared.Tried.{Tried}
-use Rattle.instances.specs.declared.Tried.TheVariants.{Got, Failed, Limit}
-use Rattle.instances.specs.declared.Picked.TheVariants.{At, Nothing, Refused as Pick-Refused}
-use Rattle.instances.specs.declared.Truth.{Truth}
-use Rattle.instances.specs.declared.Truth.TheVariants.{Yes, No, Refused as Truth-Refused}
-use Rattle.instances.specs.declared.Apart.TheVariants.{All, Refused as Apart-Refused}
+use Rattle.instances.specs.Tried.{Tried}
+use Rattle.instances.specs.Tried.{Got, Failed, Limit}
+use Rattle.instances.specs.Picked.{At, Nothing, Refused as Pick-Refused}
+use Rattle.instances.specs.Truth.{Truth}
+use Rattle.instances.specs.Truth.{Yes, No, Refused as Truth-Refused}
+use Rattle.instances.specs.Apart.{All, Refused as Apart-Refused}
 use Rattle.instances.proofs.Held.{from, Next, next, from_end, stored_head, instances_kept, heads_kept}
 use Rattle.instances.proofs.Attempts.{match_got, match_failed, match_limit}
 

@@ -17,8 +17,8 @@ use Rattle.errors.specs.Refusals.{refusal_of}
 use Rattle.pairs.specs.Pairs.{sub_at}
 use Rattle.instances.specs.Accepted.{Instances}
 use Rattle.instances.specs.Picks.{GivesPick}
-use Rattle.instances.specs.declared.Picked.{Picked}
-use Rattle.instances.specs.declared.Picked.TheVariants.{At, Nothing, Refused}
+use Rattle.instances.specs.Picked.{Picked}
+use Rattle.instances.specs.Picked.{At, Nothing, Refused}
 
 -- A refusal is 6 or 7.
 abbrev pub SixOrSeven : E.Refusal → Type 0

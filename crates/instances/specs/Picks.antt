@@ -13,14 +13,14 @@ use Rattle.errors.specs.Refusals.{Refuses}
 use Rattle.pairs.specs.Pairs.{sub_at, Stands}
 use Rattle.compose.specs.Answers.{GrownU}
 use Rattle.instances.specs.Accepted.{Instances, Heads}
-use Rattle.instances.specs.declared.Tried.{Tried}
-use Rattle.instances.specs.declared.Tried.TheVariants.{Got, Failed, Limit}
-use Rattle.instances.specs.declared.Picked.{Picked}
-use Rattle.instances.specs.declared.Picked.TheVariants.{At, Nothing, Refused as Pick-Refused}
-use Rattle.instances.specs.declared.Truth.{Truth}
-use Rattle.instances.specs.declared.Truth.TheVariants.{Yes, No, Refused as Truth-Refused}
-use Rattle.instances.specs.declared.Apart.{Apart}
-use Rattle.instances.specs.declared.Apart.TheVariants.{All, Refused as Apart-Refused}
+use Rattle.instances.specs.Tried.{Tried}
+use Rattle.instances.specs.Tried.{Got, Failed, Limit}
+use Rattle.instances.specs.Picked.{Picked}
+use Rattle.instances.specs.Picked.{At, Nothing, Refused as Pick-Refused}
+use Rattle.instances.specs.Truth.{Truth}
+use Rattle.instances.specs.Truth.{Yes, No, Refused as Truth-Refused}
+use Rattle.instances.specs.Apart.{Apart}
+use Rattle.instances.specs.Apart.{All, Refused as Apart-Refused}
 
 -- ## The meaning's loops, one instance at a time
 

@@ -1,7 +1,7 @@
 // Accepted instances of 001: looking one up by its head, and the test whether a new head overlaps an older one.
 #![tactic(auto)]
 
-ghost use Rattle.std.specs.Prelude.{◌≡◌, ◌++◌, ◌*◌, ◌<◌, ◌≤◌, length, get_or};
+ghost use Rattle.std.specs.Prelude.{◌≡◌, IfOk, Ok, None, ◌++◌, ◌*◌, ◌<◌, ◌≤◌, length, get_or};
 ghost use Rattle.std.proofs.Math.Option.{none};
 ghost use Rattle.meaning.specs.Ast.{pred};
 ghost use Rattle.meaning.specs.Budget.{settled};
@@ -11,11 +11,14 @@ ghost use Rattle.names.specs.Names.{name_of};
 ghost use Rattle.ast.specs.Table.{tree};
 ghost use Rattle.compose.specs.Answers.{ReadyU};
 ghost use Rattle.instances.specs.Accepted.{Openable, Opened, head_of};
+ghost use Rattle.instances.specs.Tried.{tried_of};
+ghost use Rattle.instances.specs.Picked.{picked_of};
+ghost use Rattle.instances.specs.Truth.{truth_of};
+ghost use Rattle.instances.specs.Apart.{apart_of};
 ghost use Rattle.instances.specs.Picks.{tried, clash, ReadyPick, Tries, GivesPick, Tests, GivesApart};
 
-use apply::Applied;
-use ast::Cell;
-use errors::Refusal;
+use ast::{Base, Cell, Room};
+use errors::{DEPTH, Refusal};
 
 // An instance: its head's class and type, and the list of its context.
 #[derive(Clone, Copy)]
@@ -25,43 +28,18 @@ pub struct Instance {
     pub context: usize,
 }
 
-// What an attempt to match comes to: so many pairs, the first free node and the steps left; no match and the steps
-// left; or a refusal that the port adds, with the last two.
+// An instance that was chosen, by its number, and how many pairs its match has.
 #[derive(Clone, Copy)]
-enum Tried {
-    Got(usize, usize, usize),
-    Failed(usize),
-    Limit(Refusal, usize, usize),
-}
-
-// An instance by its number, with its match as in `Tried`; none, and the steps left; or a refusal.
-#[derive(Clone, Copy)]
-pub enum Picked {
-    At(usize, usize, usize, usize),
-    Nothing(usize),
-    Refused(Refusal, usize, usize),
-}
-
-// Whether something is so, and the steps left; or a refusal.
-#[derive(Clone, Copy)]
-pub enum Truth {
-    Yes(usize),
-    No(usize),
-    Refused(Refusal, usize, usize),
-}
-
-// No older instance overlaps, and the steps left; or a refusal.
-#[derive(Clone, Copy)]
-pub enum Apart {
-    All(usize),
-    Refused(Refusal, usize, usize),
+pub struct Match {
+    pub index: usize,
+    pub pairs: usize,
 }
 
 // Instance number i: all reading of an instance's words.
-pub fn instance_at(base: &[u64], work: &[u64], insts: &[u64], i: usize) -> Instance
+pub fn instance_at(base: Base, work: &[u64], insts: &[u64], i: usize) -> Instance
     requires i_in_bounds { i < length insts.now }
-    requires openable { Openable (base.now ++ work.now) (get_or insts.now i 0) }
-    ensures { Opened (base.now ++ work.now) (get_or insts.now i 0) result.class result.head result.context }
+    requires openable { Openable (base.words.now ++ work.now) (get_or insts.now i 0) }
+    ensures { Opened (base.entry.words.now ++ work.now) (get_or insts.now i 0) result.class result.head result.context }
 {
     let l = insts[i] as usize;
     let c = ast::cell_at(base, work, l);
@@ -71,208 +49,184 @@ pub fn instance_at(base: &[u64], work: &[u64], insts: &[u64], i: usize) -> Insta
             head: a,
             context: b,
         },
-        Cell::Nil => Instance {
-            class: 0,
-            head: 0,
-            context: 0,
-        },
+        Cell::Nil => unreachable!(),
     }
 }
 
-// `attempt` of a match: an error of the Rust is no match, and its steps are spent; a refusal that the port adds stays.
+// `attempt` of a match: an error of the Rust is no match, and its steps are spent and the nodes that it wrote are given back; a
+// refusal that the port adds stays.
 fn try_match(
-    base: &[u64],
+    base: Base,
     work: &mut [u64],
-    names: &[u64],
-    top: usize,
-    left: usize,
+    room: &mut Room,
     sp: usize,
     s: usize,
     t: usize,
-) -> Tried
-    requires base_len_bound { length base.now ≤ 4 * top }
-    requires ready_u { ReadyU names.now (base.now ++ work.old) top left sp s t }
-    ensures { Tries names.now (base.now ++ work.old) (base.now ++ work.new) top left sp
-        (settled (match_in 256 (tree names.now (base.now ++ work.old) s) (tree names.now (base.now ++ work.old) t) left)) result }
+) -> Result<Option<usize>, Refusal>
+    requires base_len_bound { length base.words.now ≤ 4 * room.old.top }
+    requires ready_u { ReadyU base.names.now (base.words.now ++ work.old) room.old.top room.old.left sp s t }
+    ensures gives { Tries base.entry.names.now (base.entry.words.now ++ work.old) (base.entry.words.now ++ work.new) room.old.top room.old.left sp
+        (settled (match_in 256 (tree base.entry.names.now (base.entry.words.now ++ work.old) s) (tree base.entry.names.now (base.entry.words.now ++ work.old) t) room.old.left)) (tried_of result room.new.top room.new.left) }
+    ensures stays { result ≡ Ok None → room.new.top ≡ room.old.top }
 {
-    let r = matching::match_ty(base, work, names, top, left, 256, sp, s, t);
-    match r {
-        Applied::Done(k, t2, l) => Tried::Got(k, t2, l),
-        Applied::Refused(e, t2, l) => {
+    let top = room.top;
+    match matching::match_ty(base, work, room, DEPTH, sp, s, t) {
+        Ok(k) => Ok(Some(k)),
+        Err(e) => {
             if errors::number(e) < 11 {
-                return Tried::Limit(e, t2, l);
+                return Err(e);
             }
-            Tried::Failed(l)
+            room.top = top;
+            Ok(None)
         }
     }
 }
 
 // The head of instance number i against a goal of class c at t.
 fn try_instance(
-    base: &[u64],
+    base: Base,
     work: &mut [u64],
-    names: &[u64],
+    room: &mut Room,
     insts: &[u64],
-    top: usize,
-    left: usize,
     sp: usize,
     i: usize,
     c: usize,
     t: usize,
-) -> Tried
-    requires base_len_bound { length base.now ≤ 4 * top }
-    requires ready_pick { ReadyPick names.now (base.now ++ work.old) insts.now top left sp t }
+) -> Result<Option<usize>, Refusal>
+    requires base_len_bound { length base.words.now ≤ 4 * room.old.top }
+    requires ready_pick { ReadyPick base.names.now (base.words.now ++ work.old) insts.now room.old.top room.old.left sp t }
     requires i_in_bounds { i < length insts.now }
-    ensures { Tries names.now (base.now ++ work.old) (base.now ++ work.new) top left sp
-        (tried (head_of names.now (base.now ++ work.old) (get_or insts.now i 0))
-        (pred (name_of names.now c) (tree names.now (base.now ++ work.old) t)) left) result }
+    ensures gives { Tries base.entry.names.now (base.entry.words.now ++ work.old) (base.entry.words.now ++ work.new) room.old.top room.old.left sp
+        (tried (head_of base.entry.names.now (base.entry.words.now ++ work.old) (get_or insts.now i 0))
+        (pred (name_of base.entry.names.now c) (tree base.entry.names.now (base.entry.words.now ++ work.old) t)) room.old.left) (tried_of result room.new.top room.new.left) }
+    ensures stays { result ≡ Ok None → room.new.top ≡ room.old.top }
 {
     let x = instance_at(base, work, insts, i);
     if x.class != c {
-        return Tried::Failed(left);
+        return Ok(None);
     }
-    try_match(base, work, names, top, left, sp, x.head, t)
+    try_match(base, work, room, sp, x.head, t)
 }
 
 // `by_inst`: the first instance whose head matches a goal of class c at t. Its match is left as pairs that end at sp.
 pub fn by_inst(
-    base: &[u64],
+    base: Base,
     work: &mut [u64],
-    names: &[u64],
+    room: &mut Room,
     insts: &[u64],
-    top: usize,
-    left: usize,
     sp: usize,
     c: usize,
     t: usize,
-) -> Picked
-    requires base_len_bound { length base.now ≤ 4 * top }
-    requires ready_pick { ReadyPick names.now (base.now ++ work.old) insts.now top left sp t }
-    ensures { GivesPick names.now (base.now ++ work.old) (base.now ++ work.new) insts.now top left sp
-        (pred (name_of names.now c) (tree names.now (base.now ++ work.old) t)) result }
+) -> Result<Option<Match>, Refusal>
+    requires base_len_bound { length base.words.now ≤ 4 * room.old.top }
+    requires ready_pick { ReadyPick base.names.now (base.words.now ++ work.old) insts.now room.old.top room.old.left sp t }
+    ensures gives { GivesPick base.entry.names.now (base.entry.words.now ++ work.old) (base.entry.words.now ++ work.new) insts.now room.old.top room.old.left sp
+        (pred (name_of base.entry.names.now c) (tree base.entry.names.now (base.entry.words.now ++ work.old) t)) (picked_of result room.new.top room.new.left) }
+    ensures stays { result ≡ Ok None → room.new.top ≡ room.old.top }
 {
-    let n = insts.len();
-    let mut l = left;
-    let mut i: usize = 0;
-    while i < n {
-        let r = try_instance(base, work, names, insts, top, l, sp, i, c, t);
-        match r {
-            Tried::Got(k, t2, l2) => return Picked::At(i, k, t2, l2),
-            Tried::Failed(l2) => {
-                l = l2;
-            }
-            Tried::Limit(e, t2, l2) => return Picked::Refused(e, t2, l2),
+    for i in 0..insts.len() {
+        let r = try_instance(base, work, room, insts, sp, i, c, t)?;
+        if let Some(k) = r {
+            return Ok(Some(Match { index: i, pairs: k }));
         }
-        i += 1;
     }
-    Picked::Nothing(l)
+    Ok(None)
 }
 
 // The second way of `overlaps`: b against a.
 fn overlaps_back(
-    base: &[u64],
+    base: Base,
     work: &mut [u64],
-    names: &[u64],
-    top: usize,
-    left: usize,
+    room: &mut Room,
     sp: usize,
     a: usize,
     b: usize,
-) -> Truth
-    requires base_len_bound { length base.now ≤ 4 * top }
-    requires ready_u { ReadyU names.now (base.now ++ work.old) top left sp a b }
-    ensures { Tests names.now (base.now ++ work.old) (base.now ++ work.new) top left sp
-        (M.or_back none (tree names.now (base.now ++ work.old) a) (tree names.now (base.now ++ work.old) b) left) result }
+) -> Result<bool, Refusal>
+    requires base_len_bound { length base.words.now ≤ 4 * room.old.top }
+    requires ready_u { ReadyU base.names.now (base.words.now ++ work.old) room.old.top room.old.left sp a b }
+    ensures gives { Tests base.entry.names.now (base.entry.words.now ++ work.old) (base.entry.words.now ++ work.new) room.old.top room.old.left sp
+        (M.or_back none (tree base.entry.names.now (base.entry.words.now ++ work.old) a) (tree base.entry.names.now (base.entry.words.now ++ work.old) b) room.old.left) (truth_of result room.new.top room.new.left) }
+    ensures stays { IfOk result (λ x. room.new.top ≡ room.old.top) }
 {
-    let r = try_match(base, work, names, top, left, sp, b, a);
-    match r {
-        Tried::Got(_, _, l2) => Truth::Yes(l2),
-        Tried::Failed(l2) => Truth::No(l2),
-        Tried::Limit(e, t2, l2) => Truth::Refused(e, t2, l2),
-    }
+    let top = room.top;
+    let r = try_match(base, work, room, sp, b, a)?;
+    room.top = top;
+    Ok(r.is_some())
 }
 
 // `overlaps`: whether a matches b or b matches a.
 pub fn overlaps(
-    base: &[u64],
+    base: Base,
     work: &mut [u64],
-    names: &[u64],
-    top: usize,
-    left: usize,
+    room: &mut Room,
     sp: usize,
     a: usize,
     b: usize,
-) -> Truth
-    requires base_len_bound { length base.now ≤ 4 * top }
-    requires ready_u { ReadyU names.now (base.now ++ work.old) top left sp a b }
-    ensures { Tests names.now (base.now ++ work.old) (base.now ++ work.new) top left sp
-        (M.overlaps (tree names.now (base.now ++ work.old) a) (tree names.now (base.now ++ work.old) b) left) result }
+) -> Result<bool, Refusal>
+    requires base_len_bound { length base.words.now ≤ 4 * room.old.top }
+    requires ready_u { ReadyU base.names.now (base.words.now ++ work.old) room.old.top room.old.left sp a b }
+    ensures gives { Tests base.entry.names.now (base.entry.words.now ++ work.old) (base.entry.words.now ++ work.new) room.old.top room.old.left sp
+        (M.overlaps (tree base.entry.names.now (base.entry.words.now ++ work.old) a) (tree base.entry.names.now (base.entry.words.now ++ work.old) b) room.old.left) (truth_of result room.new.top room.new.left) }
+    ensures stays { IfOk result (λ x. room.new.top ≡ room.old.top) }
 {
-    let r = try_match(base, work, names, top, left, sp, a, b);
+    let top = room.top;
+    let r = try_match(base, work, room, sp, a, b)?;
     match r {
-        Tried::Got(_, _, l) => Truth::Yes(l),
-        Tried::Failed(l) => overlaps_back(base, work, names, top, l, sp, a, b),
-        Tried::Limit(e, t2, l) => Truth::Refused(e, t2, l),
+        Some(_) => {
+            room.top = top;
+            Ok(true)
+        }
+        None => overlaps_back(base, work, room, sp, a, b),
     }
 }
 
 // Whether the head of instance number i overlaps a new head of class c at t.
 fn overlaps_instance(
-    base: &[u64],
+    base: Base,
     work: &mut [u64],
-    names: &[u64],
+    room: &mut Room,
     insts: &[u64],
-    top: usize,
-    left: usize,
     sp: usize,
     i: usize,
     c: usize,
     t: usize,
-) -> Truth
-    requires base_len_bound { length base.now ≤ 4 * top }
-    requires ready_pick { ReadyPick names.now (base.now ++ work.old) insts.now top left sp t }
+) -> Result<bool, Refusal>
+    requires base_len_bound { length base.words.now ≤ 4 * room.old.top }
+    requires ready_pick { ReadyPick base.names.now (base.words.now ++ work.old) insts.now room.old.top room.old.left sp t }
     requires i_in_bounds { i < length insts.now }
-    ensures { Tests names.now (base.now ++ work.old) (base.now ++ work.new) top left sp
-        (clash (head_of names.now (base.now ++ work.old) (get_or insts.now i 0))
-        (pred (name_of names.now c) (tree names.now (base.now ++ work.old) t)) left) result }
+    ensures gives { Tests base.entry.names.now (base.entry.words.now ++ work.old) (base.entry.words.now ++ work.new) room.old.top room.old.left sp
+        (clash (head_of base.entry.names.now (base.entry.words.now ++ work.old) (get_or insts.now i 0))
+        (pred (name_of base.entry.names.now c) (tree base.entry.names.now (base.entry.words.now ++ work.old) t)) room.old.left) (truth_of result room.new.top room.new.left) }
+    ensures stays { IfOk result (λ x. room.new.top ≡ room.old.top) }
 {
     let x = instance_at(base, work, insts, i);
     if x.class != c {
-        return Truth::No(left);
+        return Ok(false);
     }
-    overlaps(base, work, names, top, left, sp, x.head, t)
+    overlaps(base, work, room, sp, x.head, t)
 }
 
 // The test of `add_instance`: no older head of the class c overlaps a new one at t, or 18.
 pub fn none_overlaps(
-    base: &[u64],
+    base: Base,
     work: &mut [u64],
-    names: &[u64],
+    room: &mut Room,
     insts: &[u64],
-    top: usize,
-    left: usize,
     sp: usize,
     c: usize,
     t: usize,
-) -> Apart
-    requires base_len_bound { length base.now ≤ 4 * top }
-    requires ready_pick { ReadyPick names.now (base.now ++ work.old) insts.now top left sp t }
-    ensures { GivesApart names.now (base.now ++ work.old) (base.now ++ work.new) insts.now top left sp
-        (pred (name_of names.now c) (tree names.now (base.now ++ work.old) t)) result }
+) -> Result<(), Refusal>
+    requires base_len_bound { length base.words.now ≤ 4 * room.old.top }
+    requires ready_pick { ReadyPick base.names.now (base.words.now ++ work.old) insts.now room.old.top room.old.left sp t }
+    ensures gives { GivesApart base.entry.names.now (base.entry.words.now ++ work.old) (base.entry.words.now ++ work.new) insts.now room.old.top room.old.left sp
+        (pred (name_of base.entry.names.now c) (tree base.entry.names.now (base.entry.words.now ++ work.old) t)) (apart_of result room.new.top room.new.left) }
+    ensures stays { IfOk result (λ x. room.new.top ≡ room.old.top) }
 {
-    let n = insts.len();
-    let mut l = left;
-    let mut j: usize = 0;
-    while j < n {
-        let r = overlaps_instance(base, work, names, insts, top, l, sp, j, c, t);
-        match r {
-            Truth::Yes(l2) => return Apart::Refused(Refusal::DuplicateInstance(c, t), top, l2),
-            Truth::No(l2) => {
-                l = l2;
-            }
-            Truth::Refused(e, t2, l2) => return Apart::Refused(e, t2, l2),
+    for j in 0..insts.len() {
+        let r = overlaps_instance(base, work, room, insts, sp, j, c, t)?;
+        if r {
+            return Err(Refusal::DuplicateInstance(c, t));
         }
-        j += 1;
     }
-    Apart::All(l)
+    Ok(())
 }

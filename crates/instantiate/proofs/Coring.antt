@@ -25,12 +25,10 @@ use Rattle.supers.specs.Rows.{binders_from, binders_in}
 use Rattle.supers.proofs.RowLaws.{row_pending}
 use Rattle.classes.specs.Method.{LooksUp}
 use Rattle.classes.specs.declared.Method.{Method}
-use Rattle.classes.specs.declared.Method.TheVariants.{Of, Nothing as No-method}
 use Rattle.simplify.proofs.RowSets.{row_words}
 use Rattle.instantiate.specs.Looks.{FindsFirst, ReadyCore, Lists, GivesCored}
-use Rattle.instantiate.specs.declared.term.Sought.{Sought}
-use Rattle.instantiate.specs.declared.term.Sought.TheVariants.{At, Nothing}
-use Rattle.instantiate.specs.declared.term.Cored.TheVariants.{Done as Made, Nothing as Unmade}
+use Rattle.std.specs.Prelude.{Option, Some, None}
+use Rattle.instantiate.specs.Cored.{Made, Unmade}
 use Rattle.instantiate.proofs.Finding.{of_class, found_from, none_from}
 
 -- The word of a name.
@@ -58,25 +56,25 @@ plain_some : (x : Name) (ps : Pending) (b : Binder) (bs : Pending) (l : ℕ) →
 unfolding var_core plain_core
 plain_some x ps b bs l e = rw e
 
-module _ {ns w bs mt : List ℕ} {top dv m x : ℕ} (R : ReadyCore ns w bs top dv m x) {k : Method} (L : LooksUp mt x k) where
+module _ {ns w bs mt : List ℕ} {top dv m x : ℕ} (R : ReadyCore ns w bs top dv m x) {k : Option Method} (L : LooksUp mt x k) where
   -- There is room for a node.
   pub core_room : (4 * top + 4 ≤ length w) × (top + m < first_node)
   core_room = let r = R.room in let b = R.big in (omega arith, omega arith)
 
-  module _ {c t : ℕ} (arm : k ≡ Of c t) {s : Sought} (F : FindsFirst bs m c s) where
+  module _ {q : Method} (arm : k ≡ Some q) {s : Option ℕ} (F : FindsFirst bs m q.class s) where
     -- The dictionary's number has a word.
-    pub found_small : {d : ℕ} → s ≡ At d → d < 17_592_186_044_416
+    pub found_small : {d : ℕ} → s ≡ Some d → d < 17_592_186_044_416
     found_small h =
         let f = rw h at F.says in let b = f.below in let n = R.named in let e = f.dict in
-        let q = (row_words bs f.at (R.rows.at f.at b).row).dict in omega arith
+        let z = (row_words bs f.at (R.rows.at f.at b).row).dict in omega arith
 
     -- A method of the first row of its class.
-    pub method_done : {d : ℕ} {w₁ : List ℕ} → s ≡ At d → w₁ ≡ pushed_four w top 9 (first_fresh + d) x 0 → GivesCored ns w w₁ bs mt top m x (Made (first_node + top) (top + 1))
+    pub method_done : {d : ℕ} {w₁ : List ℕ} → s ≡ Some d → w₁ ≡ pushed_four w top 9 (first_fresh + d) x 0 → GivesCored ns w w₁ bs mt top m x (Made (first_node + top) (top + 1))
     method_done {d} {w₁} h e =
         let z = found_small h in let r = core_room in let p = r.1 in
         let D : Node w top (first_fresh + d) = low_node R.table (omega arith) in
         let P = push_selected ns r.0 (omega arith) x D e in
-        let H = found_from ns R.names R.rows c (rw h at F.says) (m - 0) 0 (omega arith) (omega arith) in
+        let H = found_from ns R.names R.rows q.class (rw h at F.says) (m - 0) 0 (omega arith) (omega arith) in
         record {
           stands = four_stands w top 9 (first_fresh + d) x 0 e (4 * top + 4 * m + 4) (omega arith);
           answer = record {
@@ -84,20 +82,20 @@ module _ {ns w bs mt : List ℕ} {top dv m x : ℕ} (R : ReadyCore ns w bs top d
             more = omega arith;
             most = omega arith;
             is = λ v n ce M N l. let o = rw arm at (L.answer ns v n ce M) in
-                rw o.is (method_found (name_of ns x) (binders_in ns w bs 0 m) (o.info, tree ns v t) H.binder l (rw (N.is (name_of ns c) o.info o.class) H.is)
+                rw o.is (method_found (name_of ns x) (binders_in ns w bs 0 m) (o.info, tree ns v q.ty) H.binder l (rw (N.is (name_of ns q.class) o.info o.class) H.is)
                 ∙ ap (λ y. done y l) (sym (P.is ∙ rw (dict_core ns w d (omega arith), H.dict) refl)));
           };
         }
 
     -- No row is of its class.
-    pub method_none : s ≡ Nothing → GivesCored ns w w bs mt top m x Unmade
+    pub method_none : s ≡ None → GivesCored ns w w bs mt top m x Unmade
     method_none h = record {
       stands = stands_refl _ _ _;
       answer = λ v n ce M N l. let o = rw arm at (L.answer ns v n ce M) in
-          rw o.is (method_lost (name_of ns x) (binders_in ns w bs 0 m) (o.info, tree ns v t) l (rw (N.is (name_of ns c) o.info o.class) (none_from ns R.names R.rows c (rw h at F.says) (m - 0) 0 (omega arith))));
+          rw o.is (method_lost (name_of ns x) (binders_in ns w bs 0 m) (o.info, tree ns v q.ty) l (rw (N.is (name_of ns q.class) o.info o.class) (none_from ns R.names R.rows q.class (rw h at F.says) (m - 0) 0 (omega arith))));
     }
 
-  module _ (arm : k ≡ No-method) where
+  module _ (arm : k ≡ None) where
     -- The name itself.
     pub name_done : m ≡ 0 → GivesCored ns w w bs mt top m x (Made x top)
     unfolding binders_from

@@ -17,7 +17,7 @@ use Rattle.supers.specs.Rows.{binders_from}
 use Rattle.simplify.proofs.RowSets.{row_words}
 use Rattle.instantiate.specs.Instance.{Rows}
 use Rattle.instantiate.specs.Looks.{NoneOf, FirstIs, FindsFirst}
-use Rattle.instantiate.specs.declared.term.Sought.TheVariants.{At, Nothing}
+use Rattle.std.specs.Prelude.{Some, None}
 
 -- ## The loop
 
@@ -34,11 +34,11 @@ none_more {bs} {c} {j} F n = record { none = λ i h e. go i h e (ℕ_discrete i 
     go i h e (no p) = F.none i (omega arith) e
 
 -- The row is found.
-pub first_found : {bs : List ℕ} {m c j : ℕ} → NoneOf bs c j → j < m → get_or bs (3 * j + 1) 0 ≡ c → FindsFirst bs m c (At (get_or bs (3 * j) 0))
+pub first_found : {bs : List ℕ} {m c j : ℕ} → NoneOf bs c j → j < m → get_or bs (3 * j + 1) 0 ≡ c → FindsFirst bs m c (Some (get_or bs (3 * j) 0))
 first_found {j = j} F h e = record { says = record { at = j; below = h; class = e; dict = refl; before = F } }
 
 -- There is none.
-pub first_none : {bs : List ℕ} {m c j : ℕ} → NoneOf bs c j → m ≤ j → FindsFirst bs m c Nothing
+pub first_none : {bs : List ℕ} {m c j : ℕ} → NoneOf bs c j → m ≤ j → FindsFirst bs m c None
 first_none F h = record { says = record { none = λ i l e. F.none i (omega arith) e } }
 
 -- ## What the meaning finds

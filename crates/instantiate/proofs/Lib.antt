@@ -6,3 +6,4 @@ pub mod Finding
 pub mod Listing
 pub mod Coring
 pub mod Looking
+pub mod Seen

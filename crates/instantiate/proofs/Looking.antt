@@ -1,6 +1,7 @@
 -- The ways out of `of_scheme` and `infer_var`.
 use mathlib.Core.Path.{◌≡◌, refl, ap, sym, ◌∙◌}
 use mathlib.Core.List.{List}
+use mathlib.Core.Logic.{◌⊎◌, inl, inr}
 use mathlib.Core.Option.{none, some}
 use Prim.Native.Nat.{ℕ, ◌+◌, ◌*◌, ◌-◌, ◌<◌, ◌≤◌}
 use native.Mathlib.Omega.{arith}
@@ -21,21 +22,22 @@ use Rattle.errors.specs.declared.Refusal.TheVariants.{UnboundVariable, UnknownMe
 use Rattle.pairs.specs.Pairs.{Stands}
 use Rattle.pairs.proofs.Frames.{stands_refl, stands_then, stands_up}
 use Rattle.apply.proofs.Hand.{Then, then_done, refuse_on, refuse_here}
+use Rattle.subst.specs.declared.Scheme.{Scheme as Held-Scheme}
 use Rattle.subst.specs.Schemes.{scheme_of_word}
 use Rattle.supers.specs.Rows.{binders_in}
 use Rattle.supers.proofs.RowLaws.{kept_rows}
-use Rattle.scope.specs.Scope.{entry_of, scheme_in, env_of, Held}
+use Rattle.scope.specs.Scope.{closed_entry, local_entry, entry_of, scheme_in, env_of, Held}
 use Rattle.scope.specs.declared.Entry.{Entry}
 use Rattle.scope.specs.declared.Entry.TheVariants.{Nothing, Closed, Local}
 use Rattle.scope.proofs.Laws.{scope_get}
 use Rattle.instantiate.specs.Instance.{state, ReadyInstance, Instantiates, GivesInstance}
 use Rattle.instantiate.specs.Looks.{ReadyCore, Builds, GivesCored, ReadyLook, Same, HasScheme, LookedAs, GivesLooked}
-use Rattle.instantiate.specs.declared.Instance.{Instance}
-use Rattle.instantiate.specs.declared.Instance.TheVariants.{Done as Got, Refused as Ungot}
-use Rattle.instantiate.specs.declared.term.Cored.{Cored}
-use Rattle.instantiate.specs.declared.term.Cored.TheVariants.{Done as Made, Nothing as Unmade}
-use Rattle.instantiate.specs.declared.Looked.{Looked}
-use Rattle.instantiate.specs.declared.Looked.TheVariants.{Done, Refused}
+use Rattle.instantiate.specs.Opened.{Instance}
+use Rattle.instantiate.specs.Opened.{Done as Got, Refused as Ungot}
+use Rattle.instantiate.specs.Cored.{Cored}
+use Rattle.instantiate.specs.Cored.{Made, Unmade}
+use Rattle.instantiate.specs.Looked.{Looked}
+use Rattle.instantiate.specs.Looked.{Done, Refused}
 use Rattle.instantiate.proofs.RowWords.{waits_type}
 
 -- ## Of the meaning
@@ -179,19 +181,31 @@ module _ {ns w ev od bs : List ℕ} {top left sp tv dv x : ℕ} (R : ReadyLook n
 
     module _ {vs ps t : ℕ} where
       -- Of a row that is closed.
-      pub closed_ready : e ≡ Closed vs ps t → ReadyInstance ns w bs top left sp tv dv vs ps t
+      closed_ready : e ≡ closed_entry vs ps t → ReadyInstance ns w bs top left sp tv dv vs ps t
       closed_ready h = scheme_ready (rw (sym k ∙ h) at (R.scope.entries x R.there)).held
 
       -- Of any other.
-      pub local_ready : e ≡ Local vs ps t → ReadyInstance ns w bs top left sp tv dv vs ps t
+      local_ready : e ≡ local_entry vs ps t → ReadyInstance ns w bs top left sp tv dv vs ps t
       local_ready h = scheme_ready (rw (sym k ∙ h) at (R.scope.entries x R.there))
 
       -- What is given for a scheme is given for the environment.
       module _ {w' bs' mt : List ℕ} {r : Looked} (G : GivesLooked (HasScheme (name_of ns x) (scheme_of_word ns w vs ps t)) ns w w' bs' mt top left sp tv dv x r) where
         -- Of a row that is closed.
-        pub closed_done : e ≡ Closed vs ps t → GivesLooked (Same (env_of ns w ev od)) ns w w' bs' mt top left sp tv dv x r
+        closed_done : e ≡ closed_entry vs ps t → GivesLooked (Same (env_of ns w ev od)) ns w w' bs' mt top left sp tv dv x r
         closed_done h = record { stands = G.stands; answer = looked_less _ _ _ _ _ _ _ _ _ _ _ _ r (λ env S. record { is = scheme_is h env S }) G.answer }
 
         -- Of any other.
-        pub local_done : e ≡ Local vs ps t → GivesLooked (Same (env_of ns w ev od)) ns w w' bs' mt top left sp tv dv x r
+        local_done : e ≡ local_entry vs ps t → GivesLooked (Same (env_of ns w ev od)) ns w w' bs' mt top left sp tv dv x r
         local_done h = record { stands = G.stands; answer = looked_less _ _ _ _ _ _ _ _ _ _ _ _ r (λ env S. record { is = scheme_is h env S }) G.answer }
+
+    module _ {s : Held-Scheme} where
+      -- Of either.
+      pub bound_ready : (e ≡ Closed s) ⊎ (e ≡ Local s) → ReadyInstance ns w bs top left sp tv dv s.vars s.preds s.ty
+      bound_ready (inl h) = closed_ready h
+      bound_ready (inr h) = local_ready h
+
+      -- The same of what is given.
+      pub bound_done : {w' bs' mt : List ℕ} {r : Looked} → GivesLooked (HasScheme (name_of ns x) (scheme_of_word ns w s.vars s.preds s.ty)) ns w w' bs' mt top left sp tv dv x r
+          → (e ≡ Closed s) ⊎ (e ≡ Local s) → GivesLooked (Same (env_of ns w ev od)) ns w w' bs' mt top left sp tv dv x r
+      bound_done G (inl h) = closed_done G h
+      bound_done G (inr h) = local_done G h

@@ -22,8 +22,8 @@ use Rattle.pairs.specs.Pairs.{Stands}
 use Rattle.pairs.proofs.Frames.{stands_then, stands_up}
 use Rattle.vars.specs.Vars.{vars_of_word}
 use Rattle.vars.proofs.VarLaws.{vars_nil, vars_cons}
-use Rattle.apply.specs.declared.Applied.{Applied}
-use Rattle.apply.specs.declared.Applied.TheVariants.{Done as Renamed, Refused as Unnamed}
+use Rattle.apply.specs.Applied.{Applied}
+use Rattle.apply.specs.Applied.{Done as Renamed, Refused as Unnamed}
 use Rattle.apply.proofs.Hand.{Then, then_done, refuse_on}
 use Rattle.rename.specs.Renaming.{Renames, freshened}
 use Rattle.rename.specs.Renamed.{ReadyRename, TypeRenamed}
@@ -34,9 +34,9 @@ use Rattle.subst.specs.Preds.{preds_of_word}
 use Rattle.subst.specs.Schemes.{scheme_of_word}
 use Rattle.subst.proofs.PredLaws.{kept_preds}
 use Rattle.instantiate.specs.Instance.{state, ReadyPreds, Takes, GivesTaken, ReadyInstance, GivesInstance}
-use Rattle.instantiate.specs.declared.Taken.{Taken}
-use Rattle.instantiate.specs.declared.Taken.TheVariants.{Done as Took, Refused as Untaken}
-use Rattle.instantiate.specs.declared.Instance.TheVariants.{Done, Refused}
+use Rattle.instantiate.specs.Taken.{Taken}
+use Rattle.instantiate.specs.Taken.{Done as Took, Refused as Untaken}
+use Rattle.instantiate.specs.Opened.{Done, Refused}
 use Rattle.instantiate.proofs.Taking.{some_node}
 
 -- ## Of the meaning

@@ -20,8 +20,8 @@ use Rattle.ast.proofs.Laws.{kept_cell, cons_head, cons_tail, node_more}
 use Rattle.errors.specs.declared.Refusal.{Refusal}
 use Rattle.pairs.specs.Pairs.{Stands}
 use Rattle.pairs.proofs.Frames.{stands_refl, stands_then, stands_up}
-use Rattle.apply.specs.declared.Applied.{Applied}
-use Rattle.apply.specs.declared.Applied.TheVariants.{Done, Refused}
+use Rattle.apply.specs.Applied.{Applied}
+use Rattle.apply.specs.Applied.{Done, Refused}
 use Rattle.apply.proofs.Hand.{Then, then_done, refuse_on}
 use Rattle.rename.specs.Renaming.{Renames, leaves}
 use Rattle.rename.specs.Renamed.{ReadyRename, GivesRenamed, TypeRenamed}
@@ -33,7 +33,7 @@ use Rattle.supers.specs.Rows.{binders_from, binders_in}
 use Rattle.scope.specs.Scope.{Smalls}
 use Rattle.scope.proofs.Fines.{small_number, small_head, small_tail}
 use Rattle.instantiate.specs.Instance.{state, with_words, Rows, ReadyPreds, GivesTaken}
-use Rattle.instantiate.specs.declared.Taken.TheVariants.{Done as Took, Refused as Untaken}
+use Rattle.instantiate.specs.Taken.{Done as Took, Refused as Untaken}
 use Rattle.instantiate.proofs.RowWords.{words_long, no_rows, rows_more, binders_more}
 
 -- ## Of the meaning

@@ -15,10 +15,10 @@ use Rattle.subst.specs.Schemes.{scheme_of_word}
 use Rattle.supers.specs.Rows.{row_at, binders_in}
 use Rattle.supers.specs.declared.rows.Row.TheVariants.{Pending as A-Pending}
 use Rattle.scope.specs.Scope.{Smalls, Held}
-use Rattle.instantiate.specs.declared.Instance.{Instance}
-use Rattle.instantiate.specs.declared.Instance.TheVariants.{Done, Refused}
-use Rattle.instantiate.specs.declared.Taken.{Taken}
-use Rattle.instantiate.specs.declared.Taken.TheVariants.{Done as Took, Refused as Untaken}
+use Rattle.instantiate.specs.Opened.{Instance}
+use Rattle.instantiate.specs.Opened.{Done, Refused}
+use Rattle.instantiate.specs.Taken.{Taken}
+use Rattle.instantiate.specs.Taken.{Done as Took, Refused as Untaken}
 
 -- The state of inference from its parts.
 abbrev pub state : Env → ℕ → ℕ → State

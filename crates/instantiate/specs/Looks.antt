@@ -18,12 +18,11 @@ use Rattle.supers.specs.Rows.{binders_in}
 use Rattle.classes.specs.Method.{Methods}
 use Rattle.scope.specs.Scope.{Scope}
 use Rattle.instantiate.specs.Instance.{state, Rows}
-use Rattle.instantiate.specs.declared.term.Sought.{Sought}
-use Rattle.instantiate.specs.declared.term.Sought.TheVariants.{At, Nothing}
-use Rattle.instantiate.specs.declared.term.Cored.{Cored}
-use Rattle.instantiate.specs.declared.term.Cored.TheVariants.{Done as Made, Nothing as Unmade}
-use Rattle.instantiate.specs.declared.Looked.{Looked}
-use Rattle.instantiate.specs.declared.Looked.TheVariants.{Done, Refused}
+use Rattle.std.specs.Prelude.{Option, Some, None}
+use Rattle.instantiate.specs.Cored.{Cored}
+use Rattle.instantiate.specs.Cored.{Made, Unmade}
+use Rattle.instantiate.specs.Looked.{Looked}
+use Rattle.instantiate.specs.Looked.{Done, Refused}
 
 -- ## The first row of a class
 
@@ -40,12 +39,12 @@ pub record FirstIs (bs : List ℕ) (m c d : ℕ) : Type 0 where
   pub before : NoneOf bs c at
 
 -- What is found in m rows.
-abbrev pub FirstAs : List ℕ → ℕ → ℕ → Sought → Type 0
-FirstAs bs m c (At d) = FirstIs bs m c d
-FirstAs bs m c Nothing = NoneOf bs c m
+abbrev pub FirstAs : List ℕ → ℕ → ℕ → Option ℕ → Type 0
+FirstAs bs m c (Some d) = FirstIs bs m c d
+FirstAs bs m c None = NoneOf bs c m
 
 -- The same as a record.
-pub record FindsFirst (bs : List ℕ) (m c : ℕ) (r : Sought) : Type 0 where
+pub record FindsFirst (bs : List ℕ) (m c : ℕ) (r : Option ℕ) : Type 0 where
   pub says : FirstAs bs m c r
 
 -- ## Terms

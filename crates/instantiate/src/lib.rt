@@ -10,32 +10,30 @@ ghost use Rattle.instantiate.specs.Looks.{ReadyLook, HasScheme, Same, GivesLooke
 ghost use Rattle.names.specs.Names.{name_of, first_fresh};
 ghost use Rattle.subst.specs.Schemes.{scheme_of_word};
 ghost use Rattle.scope.specs.Scope.{env_of};
+ghost use Rattle.instantiate.specs.Taken.{taken_of};
+ghost use Rattle.instantiate.specs.Opened.{instance_of};
+ghost use Rattle.instantiate.specs.Looked.{looked_of};
 
-use apply::Applied;
-use ast::Cell;
-use errors::Refusal;
-use scope::Entry;
-use term::Cored;
+use ast::{Base, Cell, Room};
+use errors::{DEPTH, Refusal};
+use scope::{Entry, Env, Fresh};
+use subst::Scheme;
 
-// How many rows, the first free node and the steps left; or a refusal with the last two.
+// An instance of a scheme: its type, and how many rows its predicates have.
 #[derive(Clone, Copy)]
-pub enum Taken {
-    Done(usize, usize, usize),
-    Refused(Refusal, usize, usize),
+pub struct Opened {
+    pub ty: usize,
+    pub rows: usize,
+    pub fresh: Fresh,
 }
 
-// A type's word, how many rows, the first free node, the steps left and both counters; or a refusal with node and steps.
+// What a name comes to: the type and the term of its instance, and how many rows its predicates have.
 #[derive(Clone, Copy)]
-pub enum Instance {
-    Done(usize, usize, usize, usize, usize, usize),
-    Refused(Refusal, usize, usize),
-}
-
-// A type's word, a term's word, how many rows, the first free node, the steps left and both counters; or a refusal.
-#[derive(Clone, Copy)]
-pub enum Looked {
-    Done(usize, usize, usize, usize, usize, usize, usize),
-    Refused(Refusal, usize, usize),
+pub struct Used {
+    pub ty: usize,
+    pub term: usize,
+    pub rows: usize,
+    pub fresh: Fresh,
 }
 
 // Writes row j: a dictionary's number, its class and its type.
@@ -52,157 +50,119 @@ fn put_row(binders: &mut [u64], j: usize, d: usize, c: usize, x: usize)
 // A row for each predicate of the list ps, left to right: the next dictionary's number, the class, and the type with the
 // variables of the list vs made anew.
 fn take_preds(
-    base: &[u64],
+    base: Base,
     work: &mut [u64],
-    names: &[u64],
+    room: &mut Room,
     binders: &mut [u64],
-    top: usize,
-    left: usize,
-    tv: usize,
-    dv: usize,
+    fresh: Fresh,
     vs: usize,
     ps: usize,
-) -> Taken
-    requires base_len_bound { length base.now ≤ 4 * top }
-    requires ready_preds { ReadyPreds names.now (base.now ++ work.old) binders.old top left tv dv vs ps }
-    ensures { GivesTaken names.now (base.now ++ work.old) (base.now ++ work.new) binders.new top left tv dv vs ps result }
+) -> Result<usize, Refusal>
+    requires base_len_bound { length base.words.now ≤ 4 * room.old.top }
+    requires ready_preds { ReadyPreds base.names.now (base.words.now ++ work.old) binders.old room.old.top room.old.left fresh.tv fresh.dv vs ps }
+    ensures { GivesTaken base.entry.names.now (base.entry.words.now ++ work.old) (base.entry.words.now ++ work.new) binders.new room.old.top room.old.left fresh.tv fresh.dv vs ps (taken_of result room.new.top room.new.left) }
 {
-    let to = names::FRESH + tv;
+    let to = names::FRESH + fresh.tv;
     let mut l = ps;
     let mut m: usize = 0;
-    let mut t = top;
-    let mut n = left;
-    loop {
-        let c = ast::cell_at(base, work, l);
-        match c {
-            Cell::Nil => return Taken::Done(m, t, n),
-            Cell::Cons(a, b) => {
-                let p = subst::class_at(base, work, l);
-                let r = rename::rename(base, work, names, &base[0..0], t, n, 256, vs, to, a);
-                match r {
-                    Applied::Done(u, t2, n2) => {
-                        put_row(binders, m, dv + m, p, u);
-                        t = t2;
-                        n = n2;
-                    }
-                    Applied::Refused(e, t2, n2) => return Taken::Refused(e, t2, n2),
-                }
-                m += 1;
-                l = b;
-            }
-        }
+    // No heap: the list is cells of the table, which no iterator walks.
+    while let Cell::Cons(a, b) = ast::cell_at(base, work, l) {
+        let p = subst::class_at(base, work, l);
+        let u = rename::rename(base, work, room, &base.words[0..0], DEPTH, vs, to, a)?;
+        put_row(binders, m, fresh.dv + m, p, u);
+        m += 1;
+        l = b;
     }
+    Ok(m)
 }
 
 // `instantiate`: the type first, then a row for each predicate.
 pub fn instantiate(
-    base: &[u64],
+    base: Base,
     work: &mut [u64],
-    names: &[u64],
+    room: &mut Room,
     binders: &mut [u64],
-    top: usize,
-    left: usize,
     sp: usize,
-    tv: usize,
-    dv: usize,
-    vs: usize,
-    ps: usize,
-    t: usize,
-) -> Instance
-    requires base_len_bound { length base.now ≤ 4 * top }
-    requires ready_instance { ReadyInstance names.now (base.now ++ work.old) binders.old top left sp tv dv vs ps t }
-    ensures { GivesInstance names.now (base.now ++ work.old) (base.now ++ work.new) binders.new top left sp tv dv vs ps t result }
+    fresh: Fresh,
+    scheme: Scheme,
+) -> Result<Opened, Refusal>
+    requires base_len_bound { length base.words.now ≤ 4 * room.old.top }
+    requires ready_instance { ReadyInstance base.names.now (base.words.now ++ work.old) binders.old room.old.top room.old.left sp fresh.tv fresh.dv scheme.vars scheme.preds scheme.ty }
+    ensures { GivesInstance base.entry.names.now (base.entry.words.now ++ work.old) (base.entry.words.now ++ work.new) binders.new room.old.top room.old.left sp fresh.tv fresh.dv scheme.vars scheme.preds scheme.ty (instance_of result room.new.top room.new.left) }
 {
-    let made = tv + ast::count_list(base, work, top, vs);
-    let r = rename::rename(
+    let made = fresh.tv + ast::count_list(base, work, room.top, scheme.vars);
+    let to = names::FRESH + fresh.tv;
+    let ty = rename::rename(
         base,
         work,
-        names,
-        &base[0..0],
-        top,
-        left,
-        256,
-        vs,
-        names::FRESH + tv,
-        t,
-    );
-    match r {
-        Applied::Done(u, t2, l2) => {
-            let q = take_preds(base, work, names, binders, t2, l2, tv, dv, vs, ps);
-            match q {
-                Taken::Done(m, t3, l3) => Instance::Done(u, m, t3, l3, made, dv + m),
-                Taken::Refused(e, t3, l3) => Instance::Refused(e, t3, l3),
-            }
-        }
-        Applied::Refused(e, t2, l2) => Instance::Refused(e, t2, l2),
-    }
+        room,
+        &base.words[0..0],
+        DEPTH,
+        scheme.vars,
+        to,
+        scheme.ty,
+    )?;
+    let rows = take_preds(base, work, room, binders, fresh, scheme.vars, scheme.preds)?;
+    let fresh = Fresh {
+        tv: made,
+        dv: fresh.dv + rows,
+    };
+    Ok(Opened { ty, rows, fresh })
 }
 
 // The instance of the scheme of name x, and its term.
 fn of_scheme(
-    base: &[u64],
+    base: Base,
     work: &mut [u64],
-    names: &[u64],
+    room: &mut Room,
     methods: &[u64],
     binders: &mut [u64],
-    top: usize,
-    left: usize,
     sp: usize,
-    tv: usize,
-    dv: usize,
+    fresh: Fresh,
     x: usize,
-    vs: usize,
-    ps: usize,
-    t: usize,
-) -> Looked
-    requires base_len_bound { length base.now ≤ 4 * top }
-    requires ready_instance { ReadyInstance names.now (base.now ++ work.old) binders.old top left sp tv dv vs ps t }
+    scheme: Scheme,
+) -> Result<Used, Refusal>
+    requires base_len_bound { length base.words.now ≤ 4 * room.old.top }
+    requires ready_instance { ReadyInstance base.names.now (base.words.now ++ work.old) binders.old room.old.top room.old.left sp fresh.tv fresh.dv scheme.vars scheme.preds scheme.ty }
     requires x_lt_first_fresh { x < first_fresh }
-    ensures { GivesLooked (HasScheme (name_of names.now x) (scheme_of_word names.now (base.now ++ work.old) vs ps t)) names.now
-        (base.now ++ work.old) (base.now ++ work.new) binders.new methods.now top left sp tv dv x result }
+    ensures { GivesLooked (HasScheme (name_of base.entry.names.now x) (scheme_of_word base.entry.names.now (base.entry.words.now ++ work.old) scheme.vars scheme.preds scheme.ty)) base.entry.names.now
+        (base.entry.words.now ++ work.old) (base.entry.words.now ++ work.new) binders.new methods.now room.old.top room.old.left sp fresh.tv fresh.dv x (looked_of result room.new.top room.new.left) }
 {
-    let r = instantiate(base, work, names, binders, top, left, sp, tv, dv, vs, ps, t);
-    match r {
-        Instance::Done(u, m, t2, l2, tv2, dv2) => {
-            let q = term::var_core(base, work, names, methods, binders, t2, dv, m, x);
-            match q {
-                Cored::Done(e, t3) => Looked::Done(u, e, m, t3, l2, tv2, dv2),
-                Cored::Nothing => Looked::Refused(Refusal::UnknownMethod(x), t2, l2),
-            }
-        }
-        Instance::Refused(e, t2, l2) => Looked::Refused(e, t2, l2),
+    let o = instantiate(base, work, room, binders, sp, fresh, scheme)?;
+    let q = term::var_core(base, work, room, methods, binders, fresh.dv, o.rows, x);
+    match q {
+        Some(term) => Ok(Used {
+            ty: o.ty,
+            term,
+            rows: o.rows,
+            fresh: o.fresh,
+        }),
+        None => Err(Refusal::UnknownMethod(x)),
     }
 }
 
 // `infer_var`: an instance of the scheme of name number x, and the term that uses it.
 pub fn infer_var(
-    base: &[u64],
+    base: Base,
     work: &mut [u64],
-    names: &[u64],
+    room: &mut Room,
     methods: &[u64],
-    env: &[u64],
-    order: &[u64],
+    env: Env,
     binders: &mut [u64],
-    top: usize,
-    left: usize,
     sp: usize,
-    tv: usize,
-    dv: usize,
+    fresh: Fresh,
     x: usize,
-) -> Looked
-    requires base_len_bound { length base.now ≤ 4 * top }
-    requires ready_look { ReadyLook names.now (base.now ++ work.old) env.now order.now binders.old top left sp tv dv x }
-    ensures { GivesLooked (Same (env_of names.now (base.now ++ work.old) env.now order.now)) names.now
-        (base.now ++ work.old) (base.now ++ work.new) binders.new methods.now top left sp tv dv x result }
+) -> Result<Used, Refusal>
+    requires base_len_bound { length base.words.now ≤ 4 * room.old.top }
+    requires ready_look { ReadyLook base.names.now (base.words.now ++ work.old) env.rows.now env.order.now binders.old room.old.top room.old.left sp fresh.tv fresh.dv x }
+    ensures { GivesLooked (Same (env_of base.entry.names.now (base.entry.words.now ++ work.old) env.entry.rows.now env.entry.order.now)) base.entry.names.now
+        (base.entry.words.now ++ work.old) (base.entry.words.now ++ work.new) binders.new methods.now room.old.top room.old.left sp fresh.tv fresh.dv x (looked_of result room.new.top room.new.left) }
 {
-    let e = scope::row_at(env, x);
+    let e = scope::row_at(env.rows, x);
     match e {
-        Entry::Nothing => Looked::Refused(Refusal::UnboundVariable(x), top, left),
-        Entry::Closed(vs, ps, t) => of_scheme(
-            base, work, names, methods, binders, top, left, sp, tv, dv, x, vs, ps, t,
-        ),
-        Entry::Local(vs, ps, t) => of_scheme(
-            base, work, names, methods, binders, top, left, sp, tv, dv, x, vs, ps, t,
-        ),
+        Entry::Nothing => Err(Refusal::UnboundVariable(x)),
+        Entry::Closed(scheme) | Entry::Local(scheme) => {
+            of_scheme(base, work, room, methods, binders, sp, fresh, x, scheme)
+        }
     }
 }

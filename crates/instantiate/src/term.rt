@@ -1,101 +1,78 @@
 // The term of a name over the rows' dictionaries.
-ghost use Rattle.std.specs.Prelude.{◌++◌, ◌+◌, ◌*◌, ◌≤◌, length};
+ghost use Rattle.std.specs.Prelude.{◌≡◌, ◌++◌, ◌+◌, ◌*◌, ◌≤◌, length, None};
+ghost use Rattle.instantiate.specs.Cored.{cored_of};
 ghost use Rattle.instantiate.specs.Looks.{FindsFirst, ReadyCore, Lists, GivesCored};
 
-use classes::Method;
-
-// A dictionary's number, if there is one.
-#[derive(Clone, Copy)]
-pub enum Sought {
-    At(usize),
-    Nothing,
-}
-
-// A term's word and the first free node, if there is one.
-#[derive(Clone, Copy)]
-pub enum Cored {
-    Done(usize, usize),
-    Nothing,
-}
+use ast::{Base, Room};
 
 // The dictionary's number of the first of m rows that is of class c.
-fn first_of(binders: &[u64], m: usize, c: usize) -> Sought
+fn first_of(binders: &[u64], m: usize, c: usize) -> Option<usize>
     requires { 3 * m ≤ length binders.now }
     ensures { FindsFirst binders.now m c result }
 {
-    let mut j: usize = 0;
-    while j < m {
+    for j in 0..m {
         if binders[3 * j + 1] as usize == c {
-            return Sought::At(binders[3 * j] as usize);
+            return Some(binders[3 * j] as usize);
         }
-        j += 1;
     }
-    Sought::Nothing
+    None
 }
 
 // The list of the dictionaries of m rows, built from the last to the first.
 fn rows_list(
-    base: &[u64],
+    base: Base,
     work: &mut [u64],
-    names: &[u64],
+    room: &mut Room,
     binders: &[u64],
-    top: usize,
     dv: usize,
     m: usize,
     x: usize,
 ) -> usize
-    requires base_len_bound { length base.now ≤ 4 * top }
-    requires ready_core { ReadyCore names.now (base.now ++ work.old) binders.now top dv m x }
-    ensures { Lists (base.now ++ work.old) (base.now ++ work.new) binders.now top m result }
+    requires base_len_bound { length base.words.now ≤ 4 * room.old.top }
+    requires ready_core { ReadyCore base.names.now (base.words.now ++ work.old) binders.now room.old.top dv m x }
+    ensures lists { Lists (base.entry.words.now ++ work.old) (base.entry.words.now ++ work.new) binders.now room.old.top m result }
+    ensures top { room.new.top ≡ room.old.top + m }
+    ensures left { room.new.left ≡ room.old.left }
 {
     let mut l = ast::NIL;
     let mut j = m;
-    let mut t = top;
     while j > 0 {
         j -= 1;
         let d = binders[3 * j] as usize;
-        ast::push(base, work, t, 3, names::FRESH + d, l);
-        l = names::NODE + t;
-        t += 1;
+        l = ast::add(base, work, room, ast::CONS, names::FRESH + d, l);
     }
     l
 }
 
 // The term of name x over m rows: a method of the first row of its class, or the name applied to all of them.
 pub fn var_core(
-    base: &[u64],
+    base: Base,
     work: &mut [u64],
-    names: &[u64],
+    room: &mut Room,
     methods: &[u64],
     binders: &[u64],
-    top: usize,
     dv: usize,
     m: usize,
     x: usize,
-) -> Cored
-    requires base_len_bound { length base.now ≤ 4 * top }
-    requires ready_core { ReadyCore names.now (base.now ++ work.old) binders.now top dv m x }
-    ensures { GivesCored names.now (base.now ++ work.old) (base.now ++ work.new) binders.now methods.now top m x result }
+) -> Option<usize>
+    requires base_len_bound { length base.words.now ≤ 4 * room.old.top }
+    requires ready_core { ReadyCore base.names.now (base.words.now ++ work.old) binders.now room.old.top dv m x }
+    ensures gives { GivesCored base.entry.names.now (base.entry.words.now ++ work.old) (base.entry.words.now ++ work.new) binders.now methods.now room.old.top m x (cored_of result room.new.top) }
+    ensures none_stays { result ≡ None → room.new.top ≡ room.old.top }
+    ensures left { room.new.left ≡ room.old.left }
 {
     let k = classes::lookup_method(methods, x);
     match k {
-        Method::Of(c, _) => {
-            let s = first_of(binders, m, c);
-            match s {
-                Sought::At(d) => {
-                    cores::push_method(base, work, top, names::FRESH + d, x);
-                    Cored::Done(names::NODE + top, top + 1)
-                }
-                Sought::Nothing => Cored::Nothing,
-            }
+        Some(method) => {
+            let d = first_of(binders, m, method.class)?;
+            Some(cores::push_method(base, work, room, names::FRESH + d, x))
         }
-        Method::Nothing => {
+        None => {
             if m == 0 {
-                return Cored::Done(x, top);
+                return Some(x);
             }
-            let l = rows_list(base, work, names, binders, top, dv, m, x);
-            cores::push_app(base, work, top + m, x, l);
-            Cored::Done(names::NODE + (top + m), top + m + 1)
+            let l = rows_list(base, work, room, binders, dv, m, x);
+            Some(cores::push_app(base, work, room, x, l))
         }
     }
 }

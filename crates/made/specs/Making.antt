@@ -9,8 +9,7 @@ use Rattle.pairs.specs.Pairs.{Stands}
 use Rattle.cores.specs.Terms.{core}
 use Rattle.scope.specs.Scope.{Scope}
 use Rattle.inferred.specs.Inferring.{state_of}
-use Rattle.made.specs.declared.Made.{Made}
-use Rattle.made.specs.declared.Made.TheVariants.{Done, Refused}
+use Rattle.made.specs.Made.{Made, Done, Refused}
 
 -- The term e in the grown table, and the environment: no more words and numbers are used than the steps paid for, and of what they
 -- paid for 4 words are left, for a cell that holds the term.

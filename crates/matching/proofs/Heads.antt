@@ -19,8 +19,8 @@ use Rattle.ast.proofs.Laws.{kept_tree, node_more, tree_con, con_child}
 use Rattle.errors.specs.declared.Refusal.{Refusal}
 use Rattle.errors.specs.declared.Refusal.TheVariants.{UnificationFailure}
 use Rattle.pairs.specs.Pairs.{sub_at}
-use Rattle.apply.specs.declared.Applied.{Applied}
-use Rattle.apply.specs.declared.Applied.TheVariants.{Done, Refused}
+use Rattle.apply.specs.Applied.{Applied}
+use Rattle.apply.specs.Applied.{Done, Refused}
 use Rattle.compose.specs.Answers.{GivesU, ReadyU, ReadyOne, ReadyArrow}
 use Rattle.matching.specs.Match.{match_one, match_arrow, Shapes}
 use Rattle.pairs.proofs.Frames.{stands_refl, sub_none}

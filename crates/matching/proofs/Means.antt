@@ -12,8 +12,8 @@ use Rattle.theorems.proofs.Joins.{Holds}
 use Rattle.theorems.proofs.Theorems.{match_sound, match_exact, match_complete}
 use Rattle.errors.specs.Refusals.{refusal_of}
 use Rattle.pairs.specs.Pairs.{sub_at}
-use Rattle.apply.specs.declared.Applied.{Applied}
-use Rattle.apply.specs.declared.Applied.TheVariants.{Done, Refused}
+use Rattle.apply.specs.Applied.{Applied}
+use Rattle.apply.specs.Applied.{Done, Refused}
 use Rattle.compose.specs.Answers.{GivesU}
 
 abbrev pub Matches : List ℕ → List ℕ → Ty → Ty → ℕ → Applied → Type 0

@@ -11,7 +11,7 @@ use Rattle.ast.specs.Table.{tree, Node}
 use Rattle.ast.proofs.Laws.{kept_table}
 use Rattle.pairs.specs.Pairs.{sub_at}
 use Rattle.pairs.proofs.OnePair.{OnePut, one_put, pair_kept, pair_is, pair_sub}
-use Rattle.apply.specs.declared.Applied.TheVariants.{Done}
+use Rattle.apply.specs.Applied.{Done}
 use Rattle.compose.specs.Answers.{GivesU}
 
 module _ {w w₁ w₂ : List ℕ} {top sp t : ℕ} (ns : List ℕ) (N : Node w top t) (x : ℕ) (room : 4 * top + 2 ≤ sp) (fits : sp ≤ length w)

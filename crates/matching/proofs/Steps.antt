@@ -14,8 +14,8 @@ use Rattle.ast.specs.declared.Cell.TheVariants.{Nil, Cons}
 use Rattle.ast.proofs.Laws.{kept_list, node_more, list_nil, list_cons, cons_head, cons_tail}
 use Rattle.errors.specs.declared.Refusal.{Refusal}
 use Rattle.pairs.specs.Pairs.{sub_at}
-use Rattle.apply.specs.declared.Applied.{Applied}
-use Rattle.apply.specs.declared.Applied.TheVariants.{Done, Refused}
+use Rattle.apply.specs.Applied.{Applied}
+use Rattle.apply.specs.Applied.{Done, Refused}
 use Rattle.compose.specs.Compose.{Both, AnswerSub, GivesSub}
 use Rattle.compose.specs.Answers.{AnswerU, GivesU, ReadyU, ReadyOne}
 use Rattle.matching.specs.Match.{match_one}

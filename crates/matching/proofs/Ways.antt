@@ -16,8 +16,8 @@ use Rattle.ast.specs.declared.Shape.{Shape}
 use Rattle.ast.specs.declared.Shape.TheVariants.{Var, Con, Arrow}
 use Rattle.ast.proofs.Laws.{tree_var, tree_con, tree_arrow, arrow_left, arrow_right, low_node, low_con}
 use Rattle.errors.specs.declared.Refusal.TheVariants.{UnificationFailure, Depth, Steps as No-Steps}
-use Rattle.apply.specs.declared.Applied.{Applied}
-use Rattle.apply.specs.declared.Applied.TheVariants.{Done, Refused}
+use Rattle.apply.specs.Applied.{Applied}
+use Rattle.apply.specs.Applied.{Done, Refused}
 use Rattle.compose.specs.Answers.{GivesU, ReadyU, ReadyArrow}
 use Rattle.matching.specs.Match.{match_arrow, Shapes, Classes}
 use Rattle.pairs.proofs.Frames.{stands_refl}
@@ -50,8 +50,8 @@ module _ {ns w : List ℕ} {top left sp s t : ℕ} (R : ReadyU ns w top left sp 
 
   module _ (dp : depth ≡ 0 → ⊥) where
     -- Out of steps.
-    pub ty_spent : left ≡ 0 → GivesU 1 0 ns w w top left sp (match_in depth (tree ns w s) (tree ns w t) left) (Refused No-Steps top 0)
-    ty_spent e = record { stands = stands_refl _ _ _; answer = record { is = walk_spent _ _ _ _ dp e; types = tt; more = omega arith; down = omega arith } }
+    pub ty_spent : left ≡ 0 → GivesU 1 0 ns w w top left sp (match_in depth (tree ns w s) (tree ns w t) left) (Refused No-Steps top left)
+    ty_spent e = record { stands = stands_refl _ _ _; answer = record { is = walk_spent _ _ _ _ dp e ∙ rw e; types = tt; more = omega arith; down = omega arith } }
 
     module _ (lp : left ≡ 0 → ⊥) {p q : Shape} (ep : p ≡ shape_of w s) (eq : q ≡ shape_of w t) where
       -- The first step.

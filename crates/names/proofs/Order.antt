@@ -1,6 +1,7 @@
 -- The order of two keys is the order of the first words that differ; they are equal where all words are.
-use mathlib.Core.Path.{◌≡◌, sym, ◌∙◌}
-use mathlib.Core.Bool.{Bool, true, false}
+use mathlib.Core.Path.{◌≡◌, refl, ap, sym, ◌∙◌}
+use native.Mathlib.Omega.{arith}
+use mathlib.Core.Bool.{Bool, true, false, ◌&&◌}
 use Prim.Native.Nat.{ℕ, ◌+◌, ◌*◌, ◌^◌, ◌<◌}
 use native.Mathlib.Decide.{ℕ_discrete}
 use lib.Dec as code
@@ -8,7 +9,10 @@ use Rattle.meaning.specs.Base.{eqb, ltb}
 use Rattle.meaning.specs.Ast.{TyVar, key, tie, tyvar_before}
 use Rattle.names.specs.declared.Key.{Key}
 use Rattle.names.specs.Keys.{four, bytes_of, key_number}
-use Rattle.names.proofs.Tests.{lt_code, eq_code, eq_yes, eq_no}
+use Rattle.std.specs.Prelude.{Option, Some, cond}
+use Rattle.std.proofs.Common.{Ordering, Less, Equal, Greater}
+use Rattle.std.specs.Ordering.{is_lt, is_some_and, partial_ordering_then, nat_cmp}
+use Rattle.names.proofs.Tests.{lt_code, lt_no, eq_code, eq_yes, eq_no}
 use Rattle.names.proofs.Words.{four_below, first_differs, first_agrees, first_unequal, second_unequal, same_parts}
 
 -- The lower words of a key are words.
@@ -107,3 +111,55 @@ tied_before x y p q s r e f t u v = rw (← e, ← f, ← t, u) v
 pub bytes_before : (x y : TyVar) (p q : Key) (s r : Bool) → key_number p ≡ key x → key_number q ≡ key y → s ≡ eqb (key_number p) (key_number q) → s ≡ false → r ≡ ltb (key_number p) (key_number q) → r ≡ tyvar_before x y
 unfolding tyvar_before
 bytes_before x y p q s r e f t u v = rw (← e, ← f, ← t, u) v
+
+-- All words are equal, or the keys are not.
+pub tells : (p q : Key) → Fit p → Fit q → (code.eqb p.over q.over && (code.eqb p.a q.a && (code.eqb p.b q.b && (code.eqb p.c q.c && code.eqb p.d q.d)))) ≡ eqb (key_number p) (key_number q)
+tells p q f g = go (ℕ_discrete p.over q.over) (ℕ_discrete p.a q.a) (ℕ_discrete p.b q.b) (ℕ_discrete p.c q.c)
+  where
+    go : Dec (p.over ≡ q.over) → Dec (p.a ≡ q.a) → Dec (p.b ≡ q.b) → Dec (p.c ≡ q.c)
+        → (code.eqb p.over q.over && (code.eqb p.a q.a && (code.eqb p.b q.b && (code.eqb p.c q.c && code.eqb p.d q.d)))) ≡ eqb (key_number p) (key_number q)
+    go (no n) d₁ d₂ d₃ = rw (eq_code p.over q.over ∙ eq_no _ _ n) (unequal p q f g (λ s. n s.over_same))
+    go (yes e) (no n) d₂ d₃ = rw (eq_code p.over q.over ∙ eq_yes _ _ e, eq_code p.a q.a ∙ eq_no _ _ n) (unequal p q f g (λ s. n s.a_same))
+    go (yes e) (yes i) (no n) d₃ = rw (eq_code p.over q.over ∙ eq_yes _ _ e, eq_code p.a q.a ∙ eq_yes _ _ i, eq_code p.b q.b ∙ eq_no _ _ n) (unequal p q f g (λ s. n s.b_same))
+    go (yes e) (yes i) (yes j) (no n) = rw (eq_code p.over q.over ∙ eq_yes _ _ e, eq_code p.a q.a ∙ eq_yes _ _ i, eq_code p.b q.b ∙ eq_yes _ _ j, eq_code p.c q.c ∙ eq_no _ _ n) (unequal p q f g (λ s. n s.c_same))
+    go (yes e) (yes i) (yes j) (yes k) = rw (eq_code p.over q.over ∙ eq_yes _ _ e, eq_code p.a q.a ∙ eq_yes _ _ i, eq_code p.b q.b ∙ eq_yes _ _ j, eq_code p.c q.c ∙ eq_yes _ _ k) (d_tells p q f g e i j k)
+
+-- ## derived order
+-- Words that differ decide, whatever comes after.
+first_word : (a b : ℕ) (p : Option Ordering) → (a ≡ b → ⊥) → is_some_and is_lt (partial_ordering_then (Some (nat_cmp a b)) p) ≡ code.ltb a b
+first_word a b p n = go (code.ltb a b) (code.eqb a b) (eq_code a b ∙ eq_no _ _ n)
+  where
+    go : (l e : Bool) → e ≡ false → is_some_and is_lt (partial_ordering_then (Some (cond l Less (cond e Equal Greater))) p) ≡ l
+    go true e h = refl
+    go false e h = rw h
+
+-- Equal words leave it to what comes after.
+next_word : (a b : ℕ) (p : Option Ordering) → a ≡ b → partial_ordering_then (Some (nat_cmp a b)) p ≡ p
+next_word a b p e = go (code.ltb a b) (code.eqb a b) (lt_code a b ∙ rw e (lt_no b b (omega arith))) (eq_code a b ∙ eq_yes _ _ e)
+  where
+    go : (l m : Bool) → l ≡ false → m ≡ true → partial_ordering_then (Some (cond l Less (cond m Equal Greater))) p ≡ p
+    go l m h i = rw (h, i)
+
+-- The words of a key in turn.
+abbrev pub words_order : Key → Key → Option Ordering
+words_order p q = partial_ordering_then (Some (nat_cmp p.over q.over)) (partial_ordering_then (Some (nat_cmp p.a q.a)) (partial_ordering_then (Some (nat_cmp p.b q.b))
+    (partial_ordering_then (Some (nat_cmp p.c q.c)) (Some (nat_cmp p.d q.d)))))
+
+-- That is the order of the keys' numbers.
+pub orders : (p q : Key) → Fit p → Fit q → is_some_and is_lt (words_order p q) ≡ ltb (key_number p) (key_number q)
+orders p q f g = go (ℕ_discrete p.over q.over) (ℕ_discrete p.a q.a) (ℕ_discrete p.b q.b) (ℕ_discrete p.c q.c)
+  where
+    last : is_some_and is_lt (Some (nat_cmp p.d q.d)) ≡ code.ltb p.d q.d
+    last = tell (code.ltb p.d q.d) (code.eqb p.d q.d)
+      where
+        tell : (l e : Bool) → is_some_and is_lt (Some (cond l Less (cond e Equal Greater))) ≡ l
+        tell true e = refl
+        tell false true = refl
+        tell false false = refl
+
+    go : Dec (p.over ≡ q.over) → Dec (p.a ≡ q.a) → Dec (p.b ≡ q.b) → Dec (p.c ≡ q.c) → is_some_and is_lt (words_order p q) ≡ ltb (key_number p) (key_number q)
+    go (no n) d₁ d₂ d₃ = first_word _ _ _ n ∙ over_differs p q f g n
+    go (yes e) (no n) d₂ d₃ = ap (λ o. is_some_and is_lt o) (next_word _ _ _ e) ∙ first_word _ _ _ n ∙ a_differs p q f g e n
+    go (yes e) (yes i) (no n) d₃ = ap (λ o. is_some_and is_lt o) (next_word _ _ _ e ∙ next_word _ _ _ i) ∙ first_word _ _ _ n ∙ b_differs p q f g e i n
+    go (yes e) (yes i) (yes j) (no n) = ap (λ o. is_some_and is_lt o) (next_word _ _ _ e ∙ next_word _ _ _ i ∙ next_word _ _ _ j) ∙ first_word _ _ _ n ∙ c_differs p q f g e i j n
+    go (yes e) (yes i) (yes j) (yes k) = ap (λ o. is_some_and is_lt o) (next_word _ _ _ e ∙ next_word _ _ _ i ∙ next_word _ _ _ j ∙ next_word _ _ _ k) ∙ last ∙ d_decides p q e i j k

@@ -26,7 +26,7 @@ pub enum Kind {
 }
 
 // The bytes of a variable as a number of five words, the highest first: 32 bytes, and what lies over all such.
-#[derive(Clone, Copy)]
+#[derive(Clone, Copy, Debug, PartialEq, Eq, PartialOrd, Ord)]
 pub struct Key {
     pub over: u64,
     pub a: u64,
@@ -35,7 +35,7 @@ pub struct Key {
     pub d: u64,
 }
 
-// What a type's word says.
+// What a type's word says. A contract names this function; `From` would say no more.
 pub fn kind_of(t: usize) -> Kind
     ensures { result ≡ kind_of t }
 {
@@ -70,10 +70,10 @@ pub fn push(k: Key, byte: u64) -> Key
     let d = shift(k.c % 256, k.d);
     Key {
         over: 0,
-        a: a,
-        b: b,
-        c: c,
-        d: d,
+        a,
+        b,
+        c,
+        d,
     }
 }
 
@@ -89,6 +89,7 @@ fn made(k: usize) -> Key
         c: 0,
         d: 0,
     };
+    // Nothing is counted: the loop ends with the last digit.
     while n >= 10 {
         e = push(e, 48 + (n % 10) as u64);
         n = n / 10;
@@ -124,8 +125,7 @@ fn name_key(names: &[u64], i: usize) -> Key
 pub fn key_of(names: &[u64], t: usize) -> Key
     ensures { key_number result ≡ key (tyvar_of names.now t) }
 {
-    let s = kind_of(t);
-    match s {
+    match kind_of(t) {
         Kind::Node(n) => Key {
             over: 4,
             a: 0,
@@ -149,38 +149,14 @@ pub fn key_of(names: &[u64], t: usize) -> Key
 fn less(p: Key, q: Key) -> bool
     ensures { result ≡ ltb (key_number p) (key_number q) }
 {
-    if p.over != q.over {
-        return p.over < q.over;
-    }
-    if p.a != q.a {
-        return p.a < q.a;
-    }
-    if p.b != q.b {
-        return p.b < q.b;
-    }
-    if p.c != q.c {
-        return p.c < q.c;
-    }
-    p.d < q.d
+    p < q
 }
 
 // The numbers are equal: all words are.
 pub fn same(p: Key, q: Key) -> bool
     ensures { result ≡ eqb (key_number p) (key_number q) }
 {
-    if p.over != q.over {
-        return false;
-    }
-    if p.a != q.a {
-        return false;
-    }
-    if p.b != q.b {
-        return false;
-    }
-    if p.c != q.c {
-        return false;
-    }
-    p.d == q.d
+    p == q
 }
 
 // The order of two words whose variables have the same bytes.

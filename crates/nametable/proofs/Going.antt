@@ -4,6 +4,7 @@ use mathlib.Core.List.{List, [], ◌∷◌, ◌++◌}
 use Prim.Native.Nat.{ℕ, suc, ◌+◌, ◌-◌, ◌^◌, ◌<◌, ◌≤◌}
 use native.Mathlib.Decide.{ℕ_discrete}
 use native.Mathlib.Omega.{arith}
+use Rattle.std.specs.Prelude.{Result, Ok, Err}
 use lib.ListN.{length, get_or, set, length-set}
 use lib.Seq.{get_or-set_same, get_or-set_other}
 use Rattle.meaning.specs.Ast.{Name, name}
@@ -13,8 +14,6 @@ use Rattle.meaning.specs.File.{name_entry}
 use Rattle.errors.specs.declared.Refusal as E
 use Rattle.errors.specs.Refusals.{refusal_of}
 use Rattle.names.specs.Names.{row}
-use Rattle.reader.specs.declared.Place.{Place}
-use Rattle.reader.specs.declared.Place.TheVariants.{Next, Bad}
 use Rattle.rows.specs.Rows.{names_from}
 use Rattle.spelling.specs.Forms.{FormWord}
 use Rattle.nametable.specs.Entries.{Took, Taken}
@@ -120,8 +119,8 @@ pub marked_here : {bytes ns₀ ix₀ ns ix ix₁ : List ℕ} {at n i p : ℕ} (v
 marked_here {ix = ix} {i = i} v g h l w = let m = g.index_length in ap (λ (xs : List ℕ). get_or xs (10_752 + i) 0) w ∙ get_or-set_same ix (10_752 + i) v 0 (omega arith)
 
 -- One name more.
-pub one_read : {bytes ns₀ ix₀ ns ix ns' ix' : List ℕ} {at n i p q : ℕ} {r : Place} → Going bytes ns₀ ix₀ ns ix at n i p → i < n → n ≤ 1024 → get_or ix (10_752 + i) 0 ≡ p → length ns' ≡ length ns → length ix' ≡ length ix
-    → Taken bytes ns ix ns' ix' p i r → r ≡ Next q → Going bytes ns₀ ix₀ ns' ix' at n (i + 1) q
+pub one_read : {bytes ns₀ ix₀ ns ix ns' ix' : List ℕ} {at n i p q : ℕ} {r : Result ℕ E.Refusal} → Going bytes ns₀ ix₀ ns ix at n i p → i < n → n ≤ 1024 → get_or ix (10_752 + i) 0 ≡ p → length ns' ≡ length ns → length ix' ≡ length ix
+    → Taken bytes ns ix ns' ix' p i r → r ≡ Ok q → Going bytes ns₀ ix₀ ns' ix' at n (i + 1) q
 one_read {bytes} {ns₀} {ix₀} {ns} {ix} {ns'} {ix'} {at} {n} {i} {p} {q} {r} g h l here u v t e = go (rw e at t)
   where
     steps : (n i : ℕ) → i < n → n - i ≡ suc (n - (i + 1))
@@ -134,7 +133,7 @@ one_read {bytes} {ns₀} {ix₀} {ns} {ix} {ns'} {ix'} {at} {n} {i} {p} {q} {r} 
     more k = ap (λ (xs : List Name). xs ++ name (row ns' (35 + i)) ∷ []) (sym (names_stand ns ns' 35 i (λ j a b. k.others j (λ e. omega arith))))
         ∙ sym (names_snoc ns' 35 i) ∙ ap (names_from ns' 35) (next i)
 
-    go : Taken bytes ns ix ns' ix' p i (Next q) → Going bytes ns₀ ix₀ ns' ix' at n (i + 1) q
+    go : Taken bytes ns ix ns' ix' p i (Ok q) → Going bytes ns₀ ix₀ ns' ix' at n (i + 1) q
     go w = let k = w.is in record {
       upto = omega arith;
       reads = g.reads ∙ ap (λ (m : ℕ). items name_entry m (names_from ns 35 i) p (from p bytes)) (steps n i h)
@@ -149,21 +148,21 @@ one_read {bytes} {ns₀} {ix₀} {ns} {ix} {ns'} {ix'} {at} {n} {i} {p} {q} {r} 
     }
 
 -- The next name is bad.
-pub one_bad : {bytes ns₀ ix₀ ns ix ns' ix' : List ℕ} {at n i p : ℕ} {r : Place} {x : E.Refusal} → Going bytes ns₀ ix₀ ns ix at n i p → i < n → Taken bytes ns ix ns' ix' p i r → r ≡ Bad x
-    → ReadAll bytes ns₀ ix₀ ns' ix' at n r
-one_bad {bytes} {ns₀} {ix₀} {ns} {ix} {ns'} {ix'} {at} {n} {i} {p} {r} {x} g h t e = rw e (go (rw e at t))
+pub one_bad : {bytes ns₀ ix₀ ns ix ns' ix' : List ℕ} {at n i p : ℕ} {r : Result ℕ E.Refusal} {x : E.Refusal} → Going bytes ns₀ ix₀ ns ix at n i p → i < n → Taken bytes ns ix ns' ix' p i r → r ≡ Err x
+    → ReadAll bytes ns₀ ix₀ ns' ix' at n (Err x)
+one_bad {bytes} {ns₀} {ix₀} {ns} {ix} {ns'} {ix'} {at} {n} {i} {p} {r} {x} g h t e = go (rw e at t)
   where
     steps : (n i : ℕ) → i < n → n - i ≡ suc (n - (i + 1))
     steps n i h = omega arith
 
-    go : Taken bytes ns ix ns' ix' p i (Bad x) → ReadAll bytes ns₀ ix₀ ns' ix' at n (Bad x)
+    go : Taken bytes ns ix ns' ix' p i (Err x) → ReadAll bytes ns₀ ix₀ ns' ix' at n (Err x)
     go k = record {
       is = g.reads ∙ ap (λ (m : ℕ). items name_entry m (names_from ns 35 i) p (from p bytes)) (steps n i h)
           ∙ item_stops name_entry (n - (i + 1)) (names_from ns 35 i) p (from p bytes) (refusal_of [] [] x) k.is;
     }
 
 -- All names are read.
-pub all_read : {bytes ns₀ ix₀ ns ix : List ℕ} {at n i p : ℕ} → Going bytes ns₀ ix₀ ns ix at n i p → n ≤ i → ReadAll bytes ns₀ ix₀ ns ix at n (Next p)
+pub all_read : {bytes ns₀ ix₀ ns ix : List ℕ} {at n i p : ℕ} → Going bytes ns₀ ix₀ ns ix at n i p → n ≤ i → ReadAll bytes ns₀ ix₀ ns ix at n (Ok p)
 all_read {bytes} {ns₀} {ix₀} {ns} {ix} {at} {n} {i} {p} g h = go i g (same n i h g.upto)
   where
     same : (n i : ℕ) → n ≤ i → i ≤ n → i ≡ n
@@ -172,7 +171,7 @@ all_read {bytes} {ns₀} {ix₀} {ns} {ix} {at} {n} {i} {p} g h = go i g (same n
     none : (n : ℕ) → n - n ≡ 0
     none n = omega arith
 
-    done : Going bytes ns₀ ix₀ ns ix at n n p → ReadAll bytes ns₀ ix₀ ns ix at n (Next p)
+    done : Going bytes ns₀ ix₀ ns ix at n n p → ReadAll bytes ns₀ ix₀ ns ix at n (Ok p)
     done k = record {
       is = record {
         read = k.reads ∙ ap (λ (m : ℕ). items name_entry m (names_from ns 35 n) p (from p bytes)) (none n) ∙ items_end name_entry (names_from ns 35 n) p (from p bytes);
@@ -183,5 +182,5 @@ all_read {bytes} {ns₀} {ix₀} {ns} {ix} {at} {n} {i} {p} g h = go i g (same n
       };
     }
 
-    go : (i : ℕ) → Going bytes ns₀ ix₀ ns ix at n i p → i ≡ n → ReadAll bytes ns₀ ix₀ ns ix at n (Next p)
+    go : (i : ℕ) → Going bytes ns₀ ix₀ ns ix at n i p → i ≡ n → ReadAll bytes ns₀ ix₀ ns ix at n (Ok p)
     go i k e = done (subst (λ (m : ℕ). Going bytes ns₀ ix₀ ns ix at n m p) e k)

@@ -4,32 +4,20 @@ use mathlib.Core.List.{List}
 use Prim.Native.Nat.{ℕ, ◌+◌, ◌*◌, ◌<◌, ◌≤◌}
 use native.Mathlib.Decide.{ℕ_discrete}
 use native.Mathlib.Omega.{arith}
+use Rattle.std.specs.Prelude.{Option, Some}
 use lib.ListN.{length, get_or, set}
 use lib.Seq.{get_or-set_same, get_or-set_other}
 use Rattle.names.specs.declared.Key.{Key}
 use Rattle.names.specs.Names.{row}
 use Rattle.names.specs.Keys.{bytes_of}
-use Rattle.rows.specs.declared.Built.{Built}
-use Rattle.rows.specs.declared.Built.TheVariants.{At, Nothing}
 use Rattle.rows.specs.BuiltIns.{First}
 use Rattle.rows.specs.Rows.{row_set, RowIs, IsBuilt}
 use Rattle.nametable.specs.Tables.{Number, own, built, Bound, AllBound}
 use Rattle.rows.proofs.Cells.{row_same, row_other}
 
 -- ## one name
--- It is no built-in name.
-pub own_number : (ns ix : List ℕ) (i : ℕ) (k : Key) (b : Built) → i < length ix → RowIs ns (35 + i) k → IsBuilt ns (bytes_of k) b → b ≡ Nothing → Bound ns ix ns (set ix i (35 + i)) i
-own_number ns ix i k b h q s e = record {
-  number = own (get_or-set_same ix i (35 + i) 0 h) refl (go (rw e at s));
-  others = λ r n. refl;
-  stands = λ j n. get_or-set_other ix i j (35 + i) 0 n;
-}
-  where
-    go : IsBuilt ns (bytes_of k) Nothing → (c : ℕ) → c < 35 → row ns c ≡ row ns (35 + i) → ⊥
-    go t c l f = t.is c l (f ∙ sym q.bytes)
-
 -- It is one.
-pub built_number : (ns ix ns' : List ℕ) (i j : ℕ) (k m : Key) (b : Built) → i < length ix → 4 * i + 144 ≤ length ns → RowIs ns (35 + i) k → IsBuilt ns (bytes_of k) b → b ≡ At j
+pub built_number : (ns ix ns' : List ℕ) (i j : ℕ) (k m : Key) (b : Option ℕ) → i < length ix → 4 * i + 144 ≤ length ns → RowIs ns (35 + i) k → IsBuilt ns (bytes_of k) b → b ≡ Some j
     → First (35 + i) (bytes_of m) → ns' ≡ row_set ns (35 + i) m → Bound ns ix ns' (set ix i j) i
 built_number ns ix ns' i j k m b h u q s e f g = record {
   number = go (rw e at s);
@@ -40,7 +28,7 @@ built_number ns ix ns' i j k m b h u q s e f g = record {
     there : get_or (set ix i j) i 0 ≡ j
     there = get_or-set_same ix i j 0 h
 
-    go : IsBuilt ns (bytes_of k) (At j) → Number ns ns' (35 + i) (get_or (set ix i j) i 0)
+    go : IsBuilt ns (bytes_of k) (Some j) → Number ns ns' (35 + i) (get_or (set ix i j) i 0)
     go t = subst (λ (n : ℕ). Number ns ns' (35 + i) n) (sym there)
         (built t.is.0 (t.is.1 ∙ q.bytes) (ap (λ (xs : List ℕ). row xs (35 + i)) g ∙ row_same ns (35 + i) m (omega arith) ∙ f.filler (omega arith)))
 

@@ -5,6 +5,7 @@ use mathlib.Core.Option.{some}
 use Prim.Native.Nat.{ℕ, ◌+◌, ◌-◌, ◌*◌, ◌^◌, ◌<◌, ◌≤◌}
 use native.Mathlib.Decide.{dec_lt}
 use native.Mathlib.Omega.{arith}
+use Rattle.std.specs.Prelude.{Result, Ok, Err}
 use lib.ListN.{length, get_or}
 use lib.Dec.{lit≤}
 use Rattle.meaning.specs.Base.{count, nth}
@@ -12,8 +13,6 @@ use Rattle.meaning.specs.Ast.{Name, name}
 use Rattle.names.specs.Names.{row, name_of, Names}
 use Rattle.names.proofs.Tests.{lt_yes}
 use Rattle.theorems.proofs.Tests.{some_inj}
-use Rattle.reader.specs.declared.Place.{Place}
-use Rattle.reader.specs.declared.Place.TheVariants.{Next, Bad}
 use Rattle.errors.specs.declared.Refusal as E
 use Rattle.rows.specs.BuiltIns.{built_ins}
 use Rattle.rows.specs.Rows.{names_from, Filled, Words}
@@ -154,15 +153,15 @@ module _ {bytes ns₀ ix₀ ns₁ ix₁ ns₂ ix₂ : List ℕ} {at n p : ℕ} (
   }
 
 -- ## ways out
-pub section_read : {bytes ns₀ ix₀ ns₁ ix₁ ns₂ ix₂ : List ℕ} {at n p : ℕ} {r : Place} → n ≤ 1024 → Filled ns₀ → ReadAll bytes ns₀ ix₀ ns₁ ix₁ at n r → r ≡ Next p
-    → AllBound ns₁ ix₁ ns₂ ix₂ n → Words ns₂ → length ns₂ ≡ 4236 → NamesRead bytes ix₀ ns₂ ix₂ at n (Next p)
+pub section_read : {bytes ns₀ ix₀ ns₁ ix₁ ns₂ ix₂ : List ℕ} {at n p : ℕ} {r : Result ℕ E.Refusal} → n ≤ 1024 → Filled ns₀ → ReadAll bytes ns₀ ix₀ ns₁ ix₁ at n r → r ≡ Ok p
+    → AllBound ns₁ ix₁ ns₂ ix₂ n → Words ns₂ → length ns₂ ≡ 4236 → NamesRead bytes ix₀ ns₂ ix₂ at n (Ok p)
 section_read {bytes} {ns₀} {ix₀} {ns₁} {ix₁} {ns₂} {ix₂} {at} {n} {p} {r} few start g e end words long = go (rw e at g)
   where
-    go : ReadAll bytes ns₀ ix₀ ns₁ ix₁ at n (Next p) → NamesRead bytes ix₀ ns₂ ix₂ at n (Next p)
+    go : ReadAll bytes ns₀ ix₀ ns₁ ix₁ at n (Ok p) → NamesRead bytes ix₀ ns₂ ix₂ at n (Ok p)
     go h = record { is = section few start h.is end words long }
 
-pub section_bad : {bytes ns₀ ix₀ ns₁ ix₁ : List ℕ} {at n : ℕ} {r : Place} {x : E.Refusal} → ReadAll bytes ns₀ ix₀ ns₁ ix₁ at n r → r ≡ Bad x → NamesRead bytes ix₀ ns₁ ix₁ at n r
-section_bad {bytes} {ns₀} {ix₀} {ns₁} {ix₁} {at} {n} {r} {x} g e = rw e (go (rw e at g))
+pub section_bad : {bytes ns₀ ix₀ ns₁ ix₁ : List ℕ} {at n : ℕ} {r : Result ℕ E.Refusal} {x : E.Refusal} → ReadAll bytes ns₀ ix₀ ns₁ ix₁ at n r → r ≡ Err x → NamesRead bytes ix₀ ns₁ ix₁ at n (Err x)
+section_bad {bytes} {ns₀} {ix₀} {ns₁} {ix₁} {at} {n} {r} {x} g e = go (rw e at g)
   where
-    go : ReadAll bytes ns₀ ix₀ ns₁ ix₁ at n (Bad x) → NamesRead bytes ix₀ ns₁ ix₁ at n (Bad x)
+    go : ReadAll bytes ns₀ ix₀ ns₁ ix₁ at n (Err x) → NamesRead bytes ix₀ ns₁ ix₁ at n (Err x)
     go h = record { is = h.is }

@@ -1,14 +1,13 @@
 -- The names section of a file, as the table and the index have it.
-use Rattle.std.specs.Prelude.{◌≡◌, List, [], ℕ, suc, ◌+◌, ◌^◌, ◌<◌, ◌≤◌, length, get_or}
+use Rattle.std.specs.Prelude.{◌≡◌, List, [], ℕ, suc, ◌+◌, ◌^◌, ◌<◌, ◌≤◌, length, get_or, Result, Ok, Err}
 use Rattle.std.proofs.Math.Option.{some}
 use Rattle.meaning.specs.Base.{if, ltb, count, nth}
 use Rattle.meaning.specs.Ast.{Name, name}
 use Rattle.meaning.specs.Reader.{got, bad, from, items}
 use Rattle.meaning.specs.File.{name_entry}
 use Rattle.errors.specs.Refusals.{refusal_of}
+use Rattle.errors.specs.declared.Refusal.{Refusal}
 use Rattle.names.specs.Names.{row, name_of, Names}
-use Rattle.reader.specs.declared.Place.{Place}
-use Rattle.reader.specs.declared.Place.TheVariants.{Next, Bad}
 use Rattle.reader.specs.Placing.{Placed}
 use Rattle.rows.specs.BuiltIns.{BuiltIns}
 use Rattle.rows.specs.Rows.{names_from}
@@ -44,11 +43,11 @@ pub record ReadUpTo (bytes ns ix ns' ix' : List ℕ) (at n p : ℕ) : Type 0 whe
   pub spots : Spots bytes ns' ix' at n p
   pub apart : Apart ns ix ns' ix' n
 
-abbrev pub ReadAs : (bytes ns ix ns' ix' : List ℕ) (at n : ℕ) → Place → Type 0
-ReadAs bytes ns ix ns' ix' at n (Next p) = ReadUpTo bytes ns ix ns' ix' at n p
-ReadAs bytes ns ix ns' ix' at n (Bad e) = items name_entry n [] at (from at bytes) ≡ bad (refusal_of [] [] e)
+abbrev pub ReadAs : (bytes ns ix ns' ix' : List ℕ) (at n : ℕ) → Result ℕ Refusal → Type 0
+ReadAs bytes ns ix ns' ix' at n (Ok p) = ReadUpTo bytes ns ix ns' ix' at n p
+ReadAs bytes ns ix ns' ix' at n (Err e) = items name_entry n [] at (from at bytes) ≡ bad (refusal_of [] [] e)
 
-pub record ReadAll (bytes ns ix ns' ix' : List ℕ) (at n : ℕ) (r : Place) : Type 0 where
+pub record ReadAll (bytes ns ix ns' ix' : List ℕ) (at n : ℕ) (r : Result ℕ Refusal) : Type 0 where
   pub is : ReadAs bytes ns ix ns' ix' at n r
 
 -- The number m of the name that stood in row r: its own row, if it is no built-in name; else that of the built-in
@@ -89,10 +88,10 @@ pub record SectionRead (bytes ix ns' ix' : List ℕ) (at n p : ℕ) : Type 0 whe
   pub built : BuiltIns ns'
   pub stands : (k : ℕ) → 2_048 ≤ k → k < 10_752 → get_or ix' k 0 ≡ get_or ix k 0
 
-abbrev pub SectionAs : (bytes ix ns' ix' : List ℕ) (at n : ℕ) → Place → Type 0
-SectionAs bytes ix ns' ix' at n (Next p) = SectionRead bytes ix ns' ix' at n p
-SectionAs bytes ix ns' ix' at n (Bad e) = items name_entry n [] at (from at bytes) ≡ bad (refusal_of [] [] e)
+abbrev pub SectionAs : (bytes ix ns' ix' : List ℕ) (at n : ℕ) → Result ℕ Refusal → Type 0
+SectionAs bytes ix ns' ix' at n (Ok p) = SectionRead bytes ix ns' ix' at n p
+SectionAs bytes ix ns' ix' at n (Err e) = items name_entry n [] at (from at bytes) ≡ bad (refusal_of [] [] e)
 
 -- What `read_names` says: the names, or the refusal of the first bad one.
-pub record NamesRead (bytes ix ns' ix' : List ℕ) (at n : ℕ) (r : Place) : Type 0 where
+pub record NamesRead (bytes ix ns' ix' : List ℕ) (at n : ℕ) (r : Result ℕ Refusal) : Type 0 where
   pub is : SectionAs bytes ix ns' ix' at n r

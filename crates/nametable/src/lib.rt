@@ -2,55 +2,26 @@
 #![tactic(auto)]
 
 ghost use Rattle.std.specs.Prelude.{◌≡◌, ◌+◌, ◌*◌, ◌<◌, ◌≤◌, length, set};
-ghost use Rattle.nametable.specs.Entries.{Spotted, Coded, Entered, Taken};
+ghost use Rattle.nametable.specs.Entries.{Spotted, Entered, Taken};
 ghost use Rattle.nametable.specs.Tables.{ReadAll, Bound, AllBound, NamesRead};
 
 use errors::Refusal;
 use names::Key;
-use reader::{Field, Place};
-use rows::Built;
 use spelling::Form;
 
-// The length of a text that may be a name; or the place of what is wrong.
-#[derive(Clone, Copy)]
-pub enum Spot {
-    Text(usize),
-    Wrong(usize),
-}
-
-// The length of the text at a place, a length byte and so many letters; or the place of what is wrong there.
-fn text_at(src: &[u8], at: usize) -> Spot
+// The text of the name at a place, which has a length byte and so many letters; or the place of what is wrong there.
+fn text_at(src: &[u8], at: usize) -> Result<&[u8], usize>
     ensures { Spotted src.now at result }
 {
-    let f = reader::byte(src, at);
-    match f {
-        Field::Cut => Spot::Wrong(at),
-        Field::Is(len) => {
-            if len == 0 {
-                return Spot::Wrong(at);
-            }
-            if len > 32 {
-                return Spot::Wrong(at);
-            }
-            if src.len() - at - 1 < len {
-                return Spot::Wrong(at + 1);
-            }
-            if !spelling::letters(src, at + 1, len) {
-                return Spot::Wrong(at + 1);
-            }
-            Spot::Text(len)
-        }
+    let len = reader::byte(src, at).ok_or(at)?;
+    if len == 0 || len > 32 {
+        return Err(at);
     }
-}
-
-// A form as a word of the index.
-fn code(f: Form) -> u64
-    ensures { Coded f result }
-{
-    match f {
-        Form::Free => 0,
-        Form::Variable => 1,
-        Form::Word => 2,
+    let text = src.get(at + 1..at + 1 + len).ok_or(at + 1)?;
+    if spelling::letters(text) {
+        Ok(text)
+    } else {
+        Err(at + 1)
     }
 }
 
@@ -61,28 +32,28 @@ fn enter(names: &mut [u64], index: &mut [u64], i: usize, k: Key, f: Form)
     ensures { Entered names.old index.old names.new index.new i k f }
 {
     rows::put_row(names, 35 + i, k);
-    index[1024 + i] = code(f);
+    index[1024 + i] = f as u64;
 }
 
 // Reads the name at a place as the i-th one of the file. One that equals an earlier name is refused where its text begins.
-fn take(src: &[u8], names: &mut [u64], index: &mut [u64], at: usize, i: usize) -> Place
+fn take(
+    src: &[u8],
+    names: &mut [u64],
+    index: &mut [u64],
+    at: usize,
+    i: usize,
+) -> Result<usize, Refusal>
     requires i_in_bounds { 4 * i + 144 ≤ length names.old }
     requires i_in_bounds_2 { 1024 + i < length index.old }
     ensures { Taken src.now names.old index.old names.new index.new at i result }
 {
-    let s = text_at(src, at);
-    match s {
-        Spot::Wrong(q) => Place::Bad(Refusal::Format(q)),
-        Spot::Text(len) => {
-            let k = spelling::key_of(src, at + 1, len);
-            if rows::is_known(names, k, i) {
-                return Place::Bad(Refusal::Format(at + 1));
-            }
-            let f = spelling::form_of(src, at + 1, len);
-            enter(names, index, i, k, f);
-            Place::Next(at + 1 + len)
-        }
+    let text = text_at(src, at).map_err(Refusal::Format)?;
+    let k = spelling::key_of(text);
+    if rows::is_known(names, k, i) {
+        return Err(Refusal::Format(at + 1));
     }
+    enter(names, index, i, k, spelling::form_of(text));
+    Ok(at + 1 + text.len())
 }
 
 // Writes the place of the i-th name into the index.
@@ -94,8 +65,15 @@ fn mark(index: &mut [u64], i: usize, at: usize)
     index[10752 + i] = at as u64;
 }
 
-// Reads n names from a place on, up to the first bad one.
-fn read_all(src: &[u8], names: &mut [u64], index: &mut [u64], at: usize, n: usize) -> Place
+// Reads n names from a place on, up to the first bad one. (`names` and `index` stay two slices, whose lengths three functions
+// require: a struct of both is no plainer, since `read_names` alone would make it, of slices that its caller keeps.)
+fn read_all(
+    src: &[u8],
+    names: &mut [u64],
+    index: &mut [u64],
+    at: usize,
+    n: usize,
+) -> Result<usize, Refusal>
     requires names_len { length names.old ≡ 4236 }
     requires index_len { length index.old ≡ 11776 }
     requires n_bound { n ≤ 1024 }
@@ -103,17 +81,11 @@ fn read_all(src: &[u8], names: &mut [u64], index: &mut [u64], at: usize, n: usiz
     ensures { ReadAll src.now names.old index.old names.new index.new at n result }
 {
     let mut p = at;
-    let mut i: usize = 0;
-    while i < n {
+    for i in 0..n {
         mark(index, i, p);
-        let r = take(src, names, index, p, i);
-        let Place::Next(q) = r else {
-            return r;
-        };
-        p = q;
-        i += 1;
+        p = take(src, names, index, p, i)?;
     }
-    Place::Next(p)
+    Ok(p)
 }
 
 // Writes the number of the i-th name: that of a built-in name, or else its own row. A row that is not needed is given up.
@@ -123,14 +95,13 @@ fn bind(names: &mut [u64], index: &mut [u64], i: usize)
     ensures { Bound names.old index.old names.new index.new i }
 {
     let k = rows::row_key(names, 35 + i);
-    let b = rows::built_in(names, k);
-    let Built::At(j) = b else {
+    if let Some(j) = rows::built_in(names, k) {
+        index[i] = j as u64;
+        let own = rows::first_key(35 + i);
+        rows::put_row(names, 35 + i, own);
+    } else {
         index[i] = (35 + i) as u64;
-        return;
-    };
-    index[i] = j as u64;
-    let own = rows::first_key(35 + i);
-    rows::put_row(names, 35 + i, own);
+    }
 }
 
 // Writes the numbers of n names.
@@ -140,16 +111,20 @@ fn bind_all(names: &mut [u64], index: &mut [u64], n: usize)
     requires n_bound { n ≤ 1024 }
     ensures { AllBound names.old index.old names.new index.new n }
 {
-    let mut i: usize = 0;
-    while i < n {
+    for i in 0..n {
         bind(names, index, i);
-        i += 1;
     }
 }
 
 // Reads the n names of the names section from a place on: the table of names, and of each name its number, its form and its
 // place.
-pub fn read_names(src: &[u8], names: &mut [u64], index: &mut [u64], at: usize, n: usize) -> Place
+pub fn read_names(
+    src: &[u8],
+    names: &mut [u64],
+    index: &mut [u64],
+    at: usize,
+    n: usize,
+) -> Result<usize, Refusal>
     requires names_len { length names.old ≡ 4236 }
     requires index_len { length index.old ≡ 11776 }
     requires n_bound { n ≤ 1024 }
@@ -157,10 +132,7 @@ pub fn read_names(src: &[u8], names: &mut [u64], index: &mut [u64], at: usize, n
     ensures { NamesRead src.now index.old names.new index.new at n result }
 {
     rows::fill(names);
-    let r = read_all(src, names, index, at, n);
-    let Place::Next(p) = r else {
-        return r;
-    };
+    let p = read_all(src, names, index, at, n)?;
     bind_all(names, index, n);
-    Place::Next(p)
+    Ok(p)
 }

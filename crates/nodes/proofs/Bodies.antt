@@ -4,8 +4,7 @@ use Prim.Native.Nat.{ℕ}
 use Rattle.meaning.specs.Reader.{from, one_of, pair, list_of}
 use Rattle.meaning.specs.File.{variable, word, con_node, let_node, pred_entry, class_entry, instance_entry}
 use Rattle.errors.specs.declared.Refusal.{Refusal}
-use Rattle.reader.specs.declared.Place.{Place}
-use Rattle.reader.specs.declared.Place.TheVariants.{Next, Bad}
+use Rattle.std.specs.Prelude.{Result, Ok, Err}
 use Rattle.reader.proofs.Sequence.{goes, stops, paired, three_paired, four_paired}
 use Rattle.nodes.specs.Known.{Before, Gives}
 use Rattle.nodes.specs.Rows.{class_body, instance_body}
@@ -13,22 +12,22 @@ use Rattle.nodes.proofs.Tags.{put_two}
 
 -- The first part refuses.
 module _ (P : Before → Type 0) (bytes : List ℕ) (at : ℕ) (e : Refusal) where
-  pub let_bad : Gives P bytes (λ s. word s.names) at (Bad e) → Gives P bytes (λ s. let_node s.names s.exprs) at (Bad e)
+  pub let_bad : Gives P bytes (λ s. word s.names) at (Err e) → Gives P bytes (λ s. let_node s.names s.exprs) at (Err e)
   unfolding let_node
   let_bad g = record { is = λ s k. stops (word s.names at (from at bytes)) _ _ (g.is s k) }
 
-  pub class_bad : Gives P bytes (λ s. one_of s.names) at (Bad e) → Gives P bytes (λ s. class_entry s.names s.types s.exprs) at (Bad e)
+  pub class_bad : Gives P bytes (λ s. one_of s.names) at (Err e) → Gives P bytes (λ s. class_entry s.names s.types s.exprs) at (Err e)
   unfolding class_entry
   class_bad g = record { is = λ s k. stops (one_of s.names at (from at bytes)) _ _ (g.is s k) }
 
-module _ (P : Before → Type 0) (bytes : List ℕ) (at : ℕ) (q : Place) where
+module _ (P : Before → Type 0) (bytes : List ℕ) (at : ℕ) (q : Result ℕ Refusal) where
   -- A constructor and its arguments.
   pub con_pair : Gives P bytes (λ s. pair (one_of s.names) (list_of (one_of s.types))) at q → Gives P bytes (λ s. con_node s.names s.types) at q
   unfolding con_node
   con_pair g = put_two P bytes at q _ _ _ g
 
   -- A let: its name, then two expressions.
-  pub let_on : (p : ℕ) → Gives P bytes (λ s. word s.names) at (Next p) → Gives P bytes (λ s. pair (one_of s.exprs) (one_of s.exprs)) p q
+  pub let_on : (p : ℕ) → Gives P bytes (λ s. word s.names) at (Ok p) → Gives P bytes (λ s. pair (one_of s.exprs) (one_of s.exprs)) p q
       → Gives P bytes (λ s. let_node s.names s.exprs) at q
   unfolding let_node
   let_on p g h = record {
@@ -43,7 +42,7 @@ module _ (P : Before → Type 0) (bytes : List ℕ) (at : ℕ) (q : Place) where
   instance_parts g = record { is = λ s k. three_paired bytes (list_of (pred_entry s.names s.types)) (pred_entry s.names s.types) _ _ at (from at bytes) q (g.is s k) }
 
   -- A class: its name, then variable, superclasses, signatures and defaults.
-  pub class_on : (p : ℕ) → Gives P bytes (λ s. one_of s.names) at (Next p) → Gives P bytes (λ s. pair (variable s.names) (class_body s)) p q
+  pub class_on : (p : ℕ) → Gives P bytes (λ s. one_of s.names) at (Ok p) → Gives P bytes (λ s. pair (variable s.names) (class_body s)) p q
       → Gives P bytes (λ s. class_entry s.names s.types s.exprs) at q
   unfolding class_entry
   class_on p g h = record {

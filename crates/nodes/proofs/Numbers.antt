@@ -4,6 +4,8 @@ use mathlib.Core.Bool.{Bool, false}
 use mathlib.Core.List.{List}
 use Prim.Native.Nat.{ℕ, ◌+◌}
 use lib.ListN.{get_or}
+use Rattle.std.specs.Result.{IsErrAnd}
+use Rattle.errors.proofs.Thrown.{thrown}
 use Rattle.meaning.specs.Base.{eqb, count}
 use Rattle.meaning.specs.Ast.{Name}
 use Rattle.meaning.specs.Errors.{reserved}
@@ -13,9 +15,9 @@ use Rattle.meaning.specs.File.{variable, word, pred_entry}
 use Rattle.theorems.proofs.Tests.{eqb_of, is_no_of}
 use Rattle.errors.specs.declared.Refusal.TheVariants.{Format, Reserved}
 use Rattle.spelling.specs.Forms.{FormWord}
-use Rattle.reader.specs.declared.Place.{Place}
-use Rattle.reader.specs.declared.Place.TheVariants.{Next, Bad}
-use Rattle.reader.specs.declared.Picked.TheVariants.{At, Nothing}
+use Rattle.std.specs.Prelude.{Result, Ok, Err}
+use Rattle.errors.specs.declared.Refusal.{Refusal}
+use Rattle.std.specs.Prelude.{Some, None}
 use Rattle.reader.specs.Verdicts.{Picks}
 use Rattle.reader.proofs.Counts.{picked, none_picked, item_got, item_fails, item_bad, passed, failed}
 use Rattle.reader.proofs.Sequence.{goes, stops, ends, paired}
@@ -34,15 +36,15 @@ counts n s Names k = k.names
 counts n s Types k = k.types
 counts n s Exprs k = k.exprs
 
-pub one_of_at : (n : Counts) (of : Section) (bytes : List ℕ) (at v m : ℕ) → m ≡ many_of n of → Picks m bytes at (At v)
-    → Gives (Sized n) bytes (λ s. one_of (things of s)) at (Next (at + 2))
+pub one_of_at : (n : Counts) (of : Section) (bytes : List ℕ) (at v m : ℕ) → m ≡ many_of n of → Picks m bytes at (Some v)
+    → Gives (Sized n) bytes (λ s. one_of (things of s)) at (Ok (at + 2))
 one_of_at n of bytes at v m e p = record {
   is = λ s k.
       let q = picked (things of s) m bytes at v (counts n s of k ∙ sym e) p in record { value = q.0; is = q.2; within = p.is.0.1 };
 }
 
-pub one_of_none : (n : Counts) (of : Section) (bytes : List ℕ) (at m : ℕ) → m ≡ many_of n of → Picks m bytes at Nothing
-    → Gives (Sized n) bytes (λ s. one_of (things of s)) at (Bad (Format at))
+pub one_of_none : (n : Counts) (of : Section) (bytes : List ℕ) (at m : ℕ) → m ≡ many_of n of → Picks m bytes at None
+    → Gives (Sized n) bytes (λ s. one_of (things of s)) at (Err (Format at))
 one_of_none n of bytes at m e p = record { is = λ s k. none_picked (things of s) m bytes at (counts n s of k ∙ sym e) p }
 
 -- ## names for a use
@@ -65,8 +67,8 @@ eqb_no : (a b : ℕ) → (a ≡ b → ⊥) → eqb a b ≡ false
 unfolding eqb
 eqb_no a b h = is_no_of (ℕ_discrete a b) h
 
-pub name_free : (u : Use) (ix bytes : List ℕ) (n : Counts) (at v : ℕ) → Picks n.names bytes at (At v) → (get_or ix (1_024 + v) 0 ≡ reserved_form u → ⊥)
-    → Gives (Known ix n) bytes (λ s. name_for u s) at (Next (at + 2))
+pub name_free : (u : Use) (ix bytes : List ℕ) (n : Counts) (at v : ℕ) → Picks n.names bytes at (Some v) → (get_or ix (1_024 + v) 0 ≡ reserved_form u → ⊥)
+    → Gives (Known ix n) bytes (λ s. name_for u s) at (Ok (at + 2))
 name_free u ix bytes n at v p h = record {
   is = λ s k.
       let q = picked s.names n.names bytes at v k.sized.names p in
@@ -78,8 +80,8 @@ name_free u ix bytes n at v p h = record {
       };
 }
 
-pub name_reserved : (u : Use) (ix bytes : List ℕ) (n : Counts) (at v : ℕ) → Picks n.names bytes at (At v) → get_or ix (1_024 + v) 0 ≡ reserved_form u
-    → Gives (Known ix n) bytes (λ s. name_for u s) at (Bad (Reserved at))
+pub name_reserved : (u : Use) (ix bytes : List ℕ) (n : Counts) (at v : ℕ) → Picks n.names bytes at (Some v) → get_or ix (1_024 + v) 0 ≡ reserved_form u
+    → Gives (Known ix n) bytes (λ s. name_for u s) at (Err (Reserved at))
 name_reserved u ix bytes n at v p h = record {
   is = λ s k.
       let q = picked s.names n.names bytes at v k.sized.names p in
@@ -87,26 +89,31 @@ name_reserved u ix bytes n at v p h = record {
       ap (λ (r : Reader Name). r at (from at bytes)) (for_use u s) ∙ item_fails reserved (one_of s.names) (unless (made u)) at _ q.0 _ _ q.2 (failed (made u) q.0 (f ∙ eqb_of _ _ h));
 }
 
-pub name_none : (u : Use) (ix bytes : List ℕ) (n : Counts) (at : ℕ) → Picks n.names bytes at Nothing
-    → Gives (Known ix n) bytes (λ s. name_for u s) at (Bad (Format at))
+pub name_none : (u : Use) (ix bytes : List ℕ) (n : Counts) (at : ℕ) → Picks n.names bytes at None
+    → Gives (Known ix n) bytes (λ s. name_for u s) at (Err (Format at))
 name_none u ix bytes n at p = record {
   is = λ s k.
       ap (λ (r : Reader Name). r at (from at bytes)) (for_use u s) ∙ item_bad reserved (one_of s.names) (unless (made u)) at _ _ (none_picked s.names n.names bytes at k.sized.names p);
 }
 
 -- ## one reader after another
+-- What `?` hands on is the refusal.
+pub refused : {A : Type 0} (P : Before → Type 0) (bytes : List ℕ) (read : Before → Reader A) (at : ℕ) (e : Refusal) (r : Result ℕ Refusal) → IsErrAnd r (λ d. d ≡ e)
+    → Gives P bytes read at (Err e) → Gives P bytes read at r
+refused P bytes read at e r h g = rw (thrown r h) g
+
 -- Counts alone are known where forms are too.
-pub sized : {A : Type 0} (ix bytes : List ℕ) (n : Counts) (read : Before → Reader A) (at : ℕ) (r : Place) → Gives (Sized n) bytes read at r → Gives (Known ix n) bytes read at r
+pub sized : {A : Type 0} (ix bytes : List ℕ) (n : Counts) (read : Before → Reader A) (at : ℕ) (r : Result ℕ Refusal) → Gives (Sized n) bytes read at r → Gives (Known ix n) bytes read at r
 sized ix bytes n read at r g = record { is = λ s k. g.is s k.sized }
 
 -- A pair: its first part refuses, or the second one has the verdict.
 pub pair_bad : {A B : Type 0} (P : Before → Type 0) (bytes : List ℕ) (r₁ : Before → Reader A) (r₂ : Before → Reader B) (at : ℕ) (e : _)
-    → Gives P bytes r₁ at (Bad e) → Gives P bytes (λ s. pair (r₁ s) (r₂ s)) at (Bad e)
+    → Gives P bytes r₁ at (Err e) → Gives P bytes (λ s. pair (r₁ s) (r₂ s)) at (Err e)
 unfolding pair
 pair_bad P bytes r₁ r₂ at e g = record { is = λ s k. stops (r₁ s at (from at bytes)) _ _ (g.is s k) }
 
-pub pair_on : {A B : Type 0} (P : Before → Type 0) (bytes : List ℕ) (r₁ : Before → Reader A) (r₂ : Before → Reader B) (at p : ℕ) (r : Place)
-    → Gives P bytes r₁ at (Next p) → Gives P bytes r₂ p r → Gives P bytes (λ s. pair (r₁ s) (r₂ s)) at r
+pub pair_on : {A B : Type 0} (P : Before → Type 0) (bytes : List ℕ) (r₁ : Before → Reader A) (r₂ : Before → Reader B) (at p : ℕ) (r : Result ℕ Refusal)
+    → Gives P bytes r₁ at (Ok p) → Gives P bytes r₂ p r → Gives P bytes (λ s. pair (r₁ s) (r₂ s)) at r
 unfolding pair
 pair_on P bytes r₁ r₂ at p r g h = record {
   is = λ s k.
@@ -114,7 +121,7 @@ pair_on P bytes r₁ r₂ at p r g h = record {
 }
 
 -- A class and a type.
-pub pred_pair : (n : Counts) (bytes : List ℕ) (at : ℕ) (r : Place) → Gives (Sized n) bytes (λ s. pair (one_of s.names) (one_of s.types)) at r
+pub pred_pair : (n : Counts) (bytes : List ℕ) (at : ℕ) (r : Result ℕ Refusal) → Gives (Sized n) bytes (λ s. pair (one_of s.names) (one_of s.types)) at r
     → Gives (Sized n) bytes (λ s. pred_entry s.names s.types) at r
 unfolding pred_entry
 pred_pair n bytes at r g = record { is = λ s k. paired bytes (one_of s.names) (one_of s.types) _ at (from at bytes) r (g.is s k) }

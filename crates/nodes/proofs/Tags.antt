@@ -10,9 +10,9 @@ use Rattle.meaning.specs.Errors.{format}
 use Rattle.meaning.specs.Reader.{got, Reader, onward, from, item, numeral, tagged, one_of, pair}
 use Rattle.meaning.specs.File.{variable, word, var_node, con_node, arrow_node, type_node, evar_node, int_node, bool_node, abs_node, app_node, let_node, expr_node, class_entry, instance_entry, let_entry, check_entry, decl_entry}
 use Rattle.errors.specs.declared.Refusal.TheVariants.{Format}
-use Rattle.reader.specs.declared.Place.{Place}
-use Rattle.reader.specs.declared.Place.TheVariants.{Next, Bad}
-use Rattle.reader.specs.declared.Field.TheVariants.{Is, Cut}
+use Rattle.std.specs.Prelude.{Result, Ok, Err}
+use Rattle.errors.specs.declared.Refusal.{Refusal}
+use Rattle.std.specs.Prelude.{Some, None}
 use Rattle.reader.specs.Verdicts.{IsField}
 use Rattle.reader.proofs.Counts.{item_got, item_fails, item_bad}
 use Rattle.reader.proofs.Sequence.{goes_with, stops, ends, paired}
@@ -26,7 +26,7 @@ nth_past (x ∷ xs) (suc n) h = nth_past xs n (omega arith)
 
 module _ {A : Type 0} (P : Before → Type 0) (bytes : List ℕ) (rs : Before → List (Reader A)) (at : ℕ) where
   -- The tag chooses the reader r.
-  pub tag_goes : (r : Before → Reader A) (t : ℕ) (q : Place) → IsField 1 bytes at (Is t) → ((s : Before) → nth (rs s) t ≡ some (r s))
+  pub tag_goes : (r : Before → Reader A) (t : ℕ) (q : Result ℕ Refusal) → IsField 1 bytes at (Some t) → ((s : Before) → nth (rs s) t ≡ some (r s))
       → Gives P bytes r (at + 1) q → Gives P bytes (λ s. tagged (rs s)) at q
   unfolding tagged
   tag_goes r t q f h g = record {
@@ -36,7 +36,7 @@ module _ {A : Type 0} (P : Before → Type 0) (bytes : List ℕ) (rs : Before �
   }
 
   -- The tag is unknown, or cut.
-  pub tag_unknown : (t m : ℕ) → IsField 1 bytes at (Is t) → ((s : Before) → count (rs s) ≡ m) → m ≤ t → Gives P bytes (λ s. tagged (rs s)) at (Bad (Format at))
+  pub tag_unknown : (t m : ℕ) → IsField 1 bytes at (Some t) → ((s : Before) → count (rs s) ≡ m) → m ≤ t → Gives P bytes (λ s. tagged (rs s)) at (Err (Format at))
   unfolding tagged
   tag_unknown t m f h i = record {
     is = λ s k.
@@ -44,22 +44,22 @@ module _ {A : Type 0} (P : Before → Type 0) (bytes : List ℕ) (rs : Before �
         (item_fails format (numeral 1) (nth (rs s)) at _ t _ _ f.is.0 (nth_past (rs s) t (let e = h s in omega arith)));
   }
 
-  pub tag_cut : IsField 1 bytes at Cut → Gives P bytes (λ s. tagged (rs s)) at (Bad (Format at))
+  pub tag_cut : IsField 1 bytes at None → Gives P bytes (λ s. tagged (rs s)) at (Err (Format at))
   unfolding tagged
   tag_cut f = record { is = λ s k. stops (item format (numeral 1) (nth (rs s)) at (from at bytes)) _ _ (item_bad format (numeral 1) (nth (rs s)) at _ _ f.is) }
 
 -- ## what the code reads as a pair or alone
-module _ {A B : Type 0} (P : Before → Type 0) (bytes : List ℕ) (at : ℕ) (q : Place) where
+module _ {A B : Type 0} (P : Before → Type 0) (bytes : List ℕ) (at : ℕ) (q : Result ℕ Refusal) where
   pub put : (r : Before → Reader A) (f : A → B) → Gives P bytes r at q → Gives P bytes (λ s at₁ bs. onward (r s at₁ bs) (λ a at₂ bs₂. got (f a) at₂ bs₂)) at q
   put r f g = record { is = λ s k. ends bytes (r s at (from at bytes)) f q (g.is s k) }
 
-module _ {A B C : Type 0} (P : Before → Type 0) (bytes : List ℕ) (at : ℕ) (q : Place) where
+module _ {A B C : Type 0} (P : Before → Type 0) (bytes : List ℕ) (at : ℕ) (q : Result ℕ Refusal) where
   pub put_two : (r : Before → Reader A) (r₂ : Before → Reader B) (f : A → B → C) → Gives P bytes (λ s. pair (r s) (r₂ s)) at q
       → Gives P bytes (λ s at₁ bs. onward (r s at₁ bs) (λ a at₂ bs₂. onward (r₂ s at₂ bs₂) (λ b at₃ bs₃. got (f a b) at₃ bs₃))) at q
   put_two r r₂ f g = record { is = λ s k. paired bytes (r s) (r₂ s) f at (from at bytes) q (g.is s k) }
 
 -- ## types
-module _ (P : Before → Type 0) (bytes : List ℕ) (at t : ℕ) (q : Place) (f : IsField 1 bytes at (Is t)) where
+module _ (P : Before → Type 0) (bytes : List ℕ) (at t : ℕ) (q : Result ℕ Refusal) (f : IsField 1 bytes at (Some t)) where
   pub type_var : t ≡ 0 → Gives P bytes (λ s. variable s.names) (at + 1) q → Gives P bytes (λ s. type_node s.names s.types) at q
   unfolding type_node nth var_node
   type_var e g = tag_goes P bytes _ at (λ s. var_node s.names) t q f (λ s. rw e refl) (put P bytes (at + 1) q _ _ g)
@@ -116,59 +116,59 @@ module _ (P : Before → Type 0) (bytes : List ℕ) (at t : ℕ) (q : Place) (f 
 
 -- ## unknown and cut tags
 module _ (P : Before → Type 0) (bytes : List ℕ) (at : ℕ) where
-  pub type_unknown : (t : ℕ) → IsField 1 bytes at (Is t) → 3 ≤ t → Gives P bytes (λ s. type_node s.names s.types) at (Bad (Format at))
+  pub type_unknown : (t : ℕ) → IsField 1 bytes at (Some t) → 3 ≤ t → Gives P bytes (λ s. type_node s.names s.types) at (Err (Format at))
   unfolding type_node count
   type_unknown t f h = tag_unknown P bytes _ at t 3 f (λ s. refl) h
 
-  pub type_cut : IsField 1 bytes at Cut → Gives P bytes (λ s. type_node s.names s.types) at (Bad (Format at))
+  pub type_cut : IsField 1 bytes at None → Gives P bytes (λ s. type_node s.names s.types) at (Err (Format at))
   unfolding type_node
   type_cut f = tag_cut P bytes _ at f
 
-  pub expr_unknown : (t : ℕ) → IsField 1 bytes at (Is t) → 6 ≤ t → Gives P bytes (λ s. expr_node s.names s.exprs) at (Bad (Format at))
+  pub expr_unknown : (t : ℕ) → IsField 1 bytes at (Some t) → 6 ≤ t → Gives P bytes (λ s. expr_node s.names s.exprs) at (Err (Format at))
   unfolding expr_node count
   expr_unknown t f h = tag_unknown P bytes _ at t 6 f (λ s. refl) h
 
-  pub expr_cut : IsField 1 bytes at Cut → Gives P bytes (λ s. expr_node s.names s.exprs) at (Bad (Format at))
+  pub expr_cut : IsField 1 bytes at None → Gives P bytes (λ s. expr_node s.names s.exprs) at (Err (Format at))
   unfolding expr_node
   expr_cut f = tag_cut P bytes _ at f
 
-  pub decl_unknown : (t : ℕ) → IsField 1 bytes at (Is t) → 4 ≤ t → Gives P bytes (λ s. decl_entry s.names s.types s.exprs) at (Bad (Format at))
+  pub decl_unknown : (t : ℕ) → IsField 1 bytes at (Some t) → 4 ≤ t → Gives P bytes (λ s. decl_entry s.names s.types s.exprs) at (Err (Format at))
   unfolding decl_entry count
   decl_unknown t f h = tag_unknown P bytes _ at t 4 f (λ s. refl) h
 
-  pub decl_cut : IsField 1 bytes at Cut → Gives P bytes (λ s. decl_entry s.names s.types s.exprs) at (Bad (Format at))
+  pub decl_cut : IsField 1 bytes at None → Gives P bytes (λ s. decl_entry s.names s.types s.exprs) at (Err (Format at))
   unfolding decl_entry
   decl_cut f = tag_cut P bytes _ at f
 
 -- ## literals
 module _ (bytes : List ℕ) (at : ℕ) where
-  pub int_is : (v : ℕ) → IsField 8 bytes at (Is v) → Gives Any bytes (λ s. int_node) at (Next (at + 8))
+  pub int_is : (v : ℕ) → IsField 8 bytes at (Some v) → Gives Any bytes (λ s. int_node) at (Ok (at + 8))
   unfolding int_node
-  int_is v f = record { is = λ s k. ends bytes (numeral 8 at (from at bytes)) _ (Next (at + 8)) (record { value = v; is = f.is.0; within = f.is.1 }) }
+  int_is v f = record { is = λ s k. ends bytes (numeral 8 at (from at bytes)) _ (Ok (at + 8)) (record { value = v; is = f.is.0; within = f.is.1 }) }
 
-  pub int_cut : IsField 8 bytes at Cut → Gives Any bytes (λ s. int_node) at (Bad (Format at))
+  pub int_cut : IsField 8 bytes at None → Gives Any bytes (λ s. int_node) at (Err (Format at))
   unfolding int_node
   int_cut f = record { is = λ s k. stops (numeral 8 at (from at bytes)) _ _ f.is }
 
-  pub bool_over : (v : ℕ) → IsField 1 bytes at (Is v) → 2 ≤ v → Gives Any bytes (λ s. bool_node) at (Bad (Format at))
+  pub bool_over : (v : ℕ) → IsField 1 bytes at (Some v) → 2 ≤ v → Gives Any bytes (λ s. bool_node) at (Err (Format at))
   unfolding bool_node count
   bool_over v f h = record {
     is = λ s k. stops (item format (numeral 1) (nth (false ∷ true ∷ [])) at (from at bytes)) _ _
         (item_fails format (numeral 1) (nth (false ∷ true ∷ [])) at _ v _ _ f.is.0 (nth_past (false ∷ true ∷ []) v h));
   }
 
-  pub bool_cut : IsField 1 bytes at Cut → Gives Any bytes (λ s. bool_node) at (Bad (Format at))
+  pub bool_cut : IsField 1 bytes at None → Gives Any bytes (λ s. bool_node) at (Err (Format at))
   unfolding bool_node
   bool_cut f = record { is = λ s k. stops (item format (numeral 1) (nth (false ∷ true ∷ [])) at (from at bytes)) _ _ (item_bad format (numeral 1) (nth (false ∷ true ∷ [])) at _ _ f.is) }
 
-  pub bool_is : (v : ℕ) → IsField 1 bytes at (Is v) → v < 2 → Gives Any bytes (λ s. bool_node) at (Next (at + 1))
+  pub bool_is : (v : ℕ) → IsField 1 bytes at (Some v) → v < 2 → Gives Any bytes (λ s. bool_node) at (Ok (at + 1))
   unfolding bool_node nth
   bool_is zero f h = record {
-    is = λ s k. ends bytes (item format (numeral 1) (nth (false ∷ true ∷ [])) at (from at bytes)) _ (Next (at + 1))
+    is = λ s k. ends bytes (item format (numeral 1) (nth (false ∷ true ∷ [])) at (from at bytes)) _ (Ok (at + 1))
         (record { value = false; is = item_got format (numeral 1) (nth (false ∷ true ∷ [])) at _ 0 false _ _ f.is.0 refl; within = f.is.1 });
   }
   bool_is (suc zero) f h = record {
-    is = λ s k. ends bytes (item format (numeral 1) (nth (false ∷ true ∷ [])) at (from at bytes)) _ (Next (at + 1))
+    is = λ s k. ends bytes (item format (numeral 1) (nth (false ∷ true ∷ [])) at (from at bytes)) _ (Ok (at + 1))
         (record { value = true; is = item_got format (numeral 1) (nth (false ∷ true ∷ [])) at _ 1 true _ _ f.is.0 refl; within = f.is.1 });
   }
   bool_is (suc (suc v)) f h = absurd (omega arith)

@@ -1,11 +1,11 @@
 -- What stands in a file before a place, what the code knows of it, and what it says of what it reads there.
-use Rattle.std.specs.Prelude.{◌≡◌, List, ℕ, ◌+◌, get_or}
+use Rattle.std.specs.Prelude.{◌≡◌, List, ℕ, ◌+◌, get_or, Result}
 use Rattle.std.proofs.Math.Option.{some}
 use Rattle.meaning.specs.Base.{count, nth}
 use Rattle.meaning.specs.Ast.{Name, Ty, Expr}
 use Rattle.meaning.specs.Reader.{Reader, from}
 use Rattle.spelling.specs.Forms.{FormWord}
-use Rattle.reader.specs.declared.Place.{Place}
+use Rattle.errors.specs.declared.Refusal.{Refusal}
 use Rattle.reader.specs.Verdicts.{Verdict}
 use Rattle.nodes.specs.declared.Counts.{Counts}
 
@@ -35,5 +35,5 @@ pub record Known (ix : List ℕ) (n : Counts) (s : Before) : Type 0 where
   pub forms : Forms ix s.names
 
 -- The place r is right for a reader of the file from the place at on, whatever stands before it that meets P.
-pub record Gives {A : Type 0} (P : Before → Type 0) (bytes : List ℕ) (read : Before → Reader A) (at : ℕ) (r : Place) : Type 0 where
+pub record Gives {A : Type 0} (P : Before → Type 0) (bytes : List ℕ) (read : Before → Reader A) (at : ℕ) (r : Result ℕ Refusal) : Type 0 where
   pub is : (s : Before) → P s → Verdict bytes (read s at (from at bytes)) r

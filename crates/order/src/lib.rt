@@ -20,20 +20,19 @@ pub fn name_less(names: &[u64], i: usize, j: usize) -> bool
 }
 
 // Moves numbers up from the end of the first k, as long as their names do not lie before that of r; the gap's place.
+// No heap: the library's sorts ask for memory, so each number is inserted by hand.
 fn make_room(names: &[u64], order: &mut [u64], k: usize, r: usize) -> usize
     requires r_bound { r < 1059 }
     requires k_in_bounds { k < length order.old }
     requires low { Low order.old k }
     ensures { Room names.now order.old order.new k r result }
 {
-    let mut i = k;
-    while i > 0 {
-        let x = order[i - 1];
+    for i in (0..k).rev() {
+        let x = order[i];
         if name_less(names, x as usize, r) {
-            return i;
+            return i + 1;
         }
-        order[i] = x;
-        i -= 1;
+        order[i + 1] = x;
     }
     0
 }
@@ -87,10 +86,8 @@ fn pass(names: &[u64], order: &mut [u64], k: usize, low: bool) -> usize
     ensures { Passed names.now order.old order.new low 1059 result }
 {
     let mut m = k;
-    let mut r: usize = 0;
-    while r < ROWS {
+    for r in 0..ROWS {
         m = step(names, order, m, low, r);
-        r += 1;
     }
     m
 }

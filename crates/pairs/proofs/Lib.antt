@@ -2,3 +2,4 @@
 pub mod Looks
 pub mod Frames
 pub mod OnePair
+pub mod Start

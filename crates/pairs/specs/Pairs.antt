@@ -4,8 +4,7 @@ use Rattle.meaning.specs.Base.{if, eqb}
 use Rattle.meaning.specs.Subst.{Subst}
 use Rattle.names.specs.Names.{tyvar_of, first_node}
 use Rattle.ast.specs.Table.{tree, Kept}
-use Rattle.pairs.specs.declared.Found.{Found}
-use Rattle.pairs.specs.declared.Found.TheVariants.{At, Nothing}
+use Rattle.std.specs.Prelude.{Option, Some, None}
 
 -- The k pairs from word at: a variable's word and a type's word each.
 unfoldable pub sub_at : List ℕ → List ℕ → ℕ → ℕ → Subst
@@ -13,9 +12,9 @@ sub_at ns w at zero = []
 sub_at ns w at (suc k) = (tyvar_of ns (get_or w at 0), tree ns w (get_or w (at + 1) 0)) ∷ sub_at ns w (at + 2) k
 
 -- The type's word that the k pairs from at have for the variable's word x.
-unfoldable pub find_at : List ℕ → ℕ → ℕ → ℕ → Found
-find_at w at zero x = Nothing
-find_at w at (suc k) x = if (eqb (get_or w at 0) x) (At (get_or w (at + 1) 0)) (find_at w (at + 2) k x)
+unfoldable pub find_at : List ℕ → ℕ → ℕ → ℕ → Option ℕ
+find_at w at zero x = None
+find_at w at (suc k) x = if (eqb (get_or w at 0) x) (Some (get_or w (at + 1) 0)) (find_at w (at + 2) k x)
 
 -- The types of the k pairs from at are words of the table.
 pub record Below (w : List ℕ) (top at k : ℕ) : Type 0 where

@@ -16,8 +16,7 @@ use Rattle.supers.specs.declared.rows.Row.{Row}
 use Rattle.supers.specs.declared.rows.Row.TheVariants.{Pending, Replaced}
 use Rattle.supers.proofs.RowLaws.{row_replaced, row_step, rows_end}
 use Rattle.reduce.proofs.Marks.{row_same}
-use Rattle.pending.specs.declared.own.Twin.{Twin}
-use Rattle.pending.specs.declared.own.Twin.TheVariants.{At, Nothing}
+use Rattle.std.specs.Prelude.{Option, Some, None}
 use Rattle.pending.specs.Rows.{put_row}
 use Rattle.pending.specs.Owned.{first_of, firsts_from, firsts, owns, ReadyOwn, FindsEarlier, Settled, GivesSettled, Aliased, GivesAliased}
 use Rattle.pending.proofs.Puts.{put_here, put_before, put_behind}
@@ -55,17 +54,17 @@ module _ {ns w ev od bs : List ℕ} {top t : ℕ} (i : ℕ) (fs es : List TyVar)
     pub settle_rows : Binders w bs top i
     settle_rows = binders_fewer i R.binders (omega arith)
 
-    module _ {f : Twin} (F : FindsEarlier (binders_in ns w bs 0 i) (pred (name_of ns c) (tree ns w u)) f) where
+    module _ {f : Option ℕ} (F : FindsEarlier (binders_in ns w bs 0 i) (pred (name_of ns c) (tree ns w u)) f) where
       -- No earlier row has its predicate.
-      pub settle_first : f ≡ Nothing → GivesSettled fs es ns w bs bs i
+      pub settle_first : f ≡ None → GivesSettled fs es ns w bs bs i
       settle_first k = record { row = rw was (refl, rw k at F.says); before = λ j p. refl; behind = λ j p. refl }
 
       -- The dictionary's number of the first row with it has a word.
-      pub settle_small : {y x : ℕ} {own b : Bool} → f ≡ At y → own ≡ b → x ≡ if own y d → x < first_fresh
+      pub settle_small : {y x : ℕ} {own b : Bool} → f ≡ Some y → own ≡ b → x ≡ if own y d → x < first_fresh
       settle_small {y} {x} {own} k o z = pick_small own y d first_fresh z (rw k at F.says).1 settle_word
 
       -- One has, and it is replaced.
-      pub settle_twin : {bs₁ : List ℕ} {own : Bool} {y x : ℕ} → f ≡ At y → own ≡ owns fs es (tree ns w u) → x ≡ if own y d → bs₁ ≡ put_row bs i d mark (first_fresh + x) → GivesSettled fs es ns w bs bs₁ i
+      pub settle_twin : {bs₁ : List ℕ} {own : Bool} {y x : ℕ} → f ≡ Some y → own ≡ owns fs es (tree ns w u) → x ≡ if own y d → bs₁ ≡ put_row bs i d mark (first_fresh + x) → GivesSettled fs es ns w bs bs₁ i
       settle_twin {bs₁} {own} {y} {x} k o z p =
           let A = rw k at F.says in
           let g = R.binders.rows.fits in

@@ -12,3 +12,4 @@ pub mod Means
 pub mod Replaces
 pub mod Callers
 pub mod Removed
+pub mod Seen

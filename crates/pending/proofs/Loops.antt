@@ -19,8 +19,8 @@ use Rattle.supers.specs.declared.rows.Row.TheVariants.{Pending, Replaced}
 use Rattle.supers.proofs.RowLaws.{row_step, rows_end, kept_rows}
 use Rattle.simplify.proofs.RowSets.{same_rows, rows_split}
 use Rattle.reduce.proofs.Marks.{row_same}
-use Rattle.pending.specs.declared.Swept.{Swept}
-use Rattle.pending.specs.declared.Swept.TheVariants.{Done, Refused}
+use Rattle.pending.specs.Swept.{Swept}
+use Rattle.pending.specs.Swept.{Done, Refused}
 use Rattle.pending.specs.Rows.{PendingRow}
 use Rattle.pending.specs.Swept.{ReadySweep, Retyped, RowsSwept, GivesSwept, GivesRows}
 use Rattle.pending.proofs.Sweeps.{prefixed, prefixed_none, prefixed_after, pending_split}

@@ -20,8 +20,7 @@ use Rattle.supers.specs.Rows.{row_at, with_row, binders_in, HasWord, Binders}
 use Rattle.supers.proofs.RowLaws.{rows_end}
 use Rattle.supers.specs.declared.rows.Row.{Row}
 use Rattle.supers.specs.declared.rows.Row.TheVariants.{Pending, Replaced}
-use Rattle.pending.specs.declared.own.Twin.{Twin}
-use Rattle.pending.specs.declared.own.Twin.TheVariants.{At, Nothing}
+use Rattle.std.specs.Prelude.{Option, Some, None}
 use Rattle.pending.specs.Owned.{first_of, owns, FindsEarlier}
 use Rattle.pending.proofs.Sweeps.{one_row}
 use Rattle.pending.proofs.Loops.{binders_split}
@@ -80,7 +79,7 @@ module _ {ns w bs : List ℕ} {top u : ℕ} (N : Names ns) (U : Node w top u) (j
   same_ready h = rw (sym e ∙ h) at (B.types j (omega arith))
 
   -- The row was replaced.
-  pub row_gone : {d x : ℕ} → q ≡ Replaced d x → FindsEarlier (binders_in ns w bs j (j + 1)) (pred (name_of ns c) (tree ns w u)) Nothing
+  pub row_gone : {d x : ℕ} → q ≡ Replaced d x → FindsEarlier (binders_in ns w bs j (j + 1)) (pred (name_of ns c) (tree ns w u)) None
   row_gone {d} {x} h =
       let b : binders_in ns w bs j (j + 1) ≡ [] = one_row ns w bs j ∙ ap (λ z. with_row ns w z []) (sym e ∙ h) in
       record { says = rw b (first_none _) }
@@ -91,19 +90,19 @@ module _ {ns w bs : List ℕ} {top u : ℕ} (N : Names ns) (U : Node w top u) (j
     alone = one_row ns w bs j ∙ ap (λ z. with_row ns w z []) (sym e ∙ h)
 
     -- Another predicate.
-    other : (pred (name_of ns b) (tree ns w t) ≡ pred (name_of ns c) (tree ns w u) → ⊥) → FindsEarlier (binders_in ns w bs j (j + 1)) (pred (name_of ns c) (tree ns w u)) Nothing
+    other : (pred (name_of ns b) (tree ns w t) ≡ pred (name_of ns c) (tree ns w u) → ⊥) → FindsEarlier (binders_in ns w bs j (j + 1)) (pred (name_of ns c) (tree ns w u)) None
     other n = record { says = rw alone (first_there (dvar d, pred (name_of ns b) (tree ns w t)) [] (pred (name_of ns c) (tree ns w u)) n ∙ first_none _) }
 
     -- It is of another class.
-    pub other_class : (b ≡ c → ⊥) → FindsEarlier (binders_in ns w bs j (j + 1)) (pred (name_of ns c) (tree ns w u)) Nothing
+    pub other_class : (b ≡ c → ⊥) → FindsEarlier (binders_in ns w bs j (j + 1)) (pred (name_of ns c) (tree ns w u)) None
     other_class n = other (λ k. n (name_of_same ns N b c (ap (λ (p : Pred). p.class) k)))
 
     -- It is at another type.
-    pub other_type : false ≡ is_yes (same_ty (tree ns w t) (tree ns w u)) → FindsEarlier (binders_in ns w bs j (j + 1)) (pred (name_of ns c) (tree ns w u)) Nothing
+    pub other_type : false ≡ is_yes (same_ty (tree ns w t) (tree ns w u)) → FindsEarlier (binders_in ns w bs j (j + 1)) (pred (name_of ns c) (tree ns w u)) None
     other_type n = other (λ k. no_says (same_ty (tree ns w t) (tree ns w u)) (sym n) (ap (λ (p : Pred). p.ty) k))
 
     -- It is the wanted one.
-    pub same_row : b ≡ c → true ≡ is_yes (same_ty (tree ns w t) (tree ns w u)) → FindsEarlier (binders_in ns w bs j (j + 1)) (pred (name_of ns c) (tree ns w u)) (At d)
+    pub same_row : b ≡ c → true ≡ is_yes (same_ty (tree ns w t) (tree ns w u)) → FindsEarlier (binders_in ns w bs j (j + 1)) (pred (name_of ns c) (tree ns w u)) (Some d)
     same_row k s =
         let v : tree ns w t ≡ tree ns w u = yes_says (same_ty (tree ns w t) (tree ns w u)) (sym s) in
         let p : pred (name_of ns b) (tree ns w t) ≡ pred (name_of ns c) (tree ns w u) = ap (λ z. pred (name_of ns z) (tree ns w t)) k ∙ ap (pred (name_of ns c)) v in
@@ -130,20 +129,20 @@ binders_fewer m B h = let f = B.rows.fits in record {
 
 module _ {ns w bs : List ℕ} {i j : ℕ} {p : Pred} (S : Seeking ns w bs i p j) where
   -- There is none at all.
-  pub sought_all : i ≤ j → FindsEarlier (binders_in ns w bs 0 i) p Nothing
+  pub sought_all : i ≤ j → FindsEarlier (binders_in ns w bs 0 i) p None
   sought_all h = let u = S.under in let e : j ≡ i = omega arith in record { says = rw e at S.nowhere }
 
-  module _ {r : Twin} (h : j < i) (F : FindsEarlier (binders_in ns w bs j (j + 1)) p r) where
+  module _ {r : Option ℕ} (h : j < i) (F : FindsEarlier (binders_in ns w bs j (j + 1)) p r) where
     -- The rows up to number j and that one.
     sought_both : first_of (binders_in ns w bs 0 (j + 1)) p ≡ first_of (binders_in ns w bs j (j + 1)) p
     sought_both = ap (λ os. first_of os p) (binders_split ns w bs 0 j (j + 1) (omega arith) (omega arith)) ∙ first_right (binders_in ns w bs 0 j) (binders_in ns w bs j (j + 1)) p S.nowhere
 
     -- Row j is it.
-    pub sought_found : {d : ℕ} → r ≡ At d → FindsEarlier (binders_in ns w bs 0 i) p (At d)
+    pub sought_found : {d : ℕ} → r ≡ Some d → FindsEarlier (binders_in ns w bs 0 i) p (Some d)
     sought_found k =
         let A = rw k at F.says in
         record { says = (rw (binders_split ns w bs 0 (j + 1) i (omega arith) (omega arith)) (first_left (binders_in ns w bs 0 (j + 1)) (binders_in ns w bs (j + 1) i) p (sought_both ∙ A.0)), A.1) }
 
     -- It is not.
-    pub sought_on : r ≡ Nothing → Seeking ns w bs i p (j + 1)
+    pub sought_on : r ≡ None → Seeking ns w bs i p (j + 1)
     sought_on k = record { under = omega arith; nowhere = sought_both ∙ (rw k at F.says) }

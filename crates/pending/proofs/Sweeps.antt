@@ -14,14 +14,14 @@ use Rattle.errors.specs.declared.Refusal.{Refusal}
 use Rattle.pairs.specs.Pairs.{sub_at}
 use Rattle.pairs.proofs.Frames.{stands_refl}
 use Rattle.apply.specs.Region.{Ready, Gives}
-use Rattle.apply.specs.declared.Applied.{Applied}
-use Rattle.apply.specs.declared.Applied.TheVariants.{Done as Applied-Done, Refused as Applied-Refused}
+use Rattle.apply.specs.Applied.{Applied}
+use Rattle.apply.specs.Applied.{Done as Applied-Done, Refused as Applied-Refused}
 use Rattle.apply.proofs.Hand.{Then, then_done, refuse_on}
 use Rattle.supers.specs.Rows.{mark, row_of, row_at, with_row, binders_in}
 use Rattle.supers.specs.declared.rows.Row.{Row}
 use Rattle.supers.specs.declared.rows.Row.TheVariants.{Pending, Replaced}
 use Rattle.supers.proofs.RowLaws.{row_open, row_step, rows_end}
-use Rattle.pending.specs.declared.Swept.TheVariants.{Done, Refused}
+use Rattle.pending.specs.Swept.{Done, Refused}
 use Rattle.pending.specs.Rows.{put_row}
 use Rattle.pending.specs.Swept.{ReadySweep, GivesSwept}
 use Rattle.pending.proofs.Puts.{put_here, put_before, put_behind}

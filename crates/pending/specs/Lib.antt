@@ -1,3 +1,3 @@
-pub mod Swept
 pub mod Rows
+pub mod Swept
 pub mod Owned

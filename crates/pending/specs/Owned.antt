@@ -1,7 +1,7 @@
 -- What `generalize_binding` does to binders after `reduce`: of equal predicates the first stays, and those that are not the
 -- binding's own come first.
-use Rattle.std.specs.Prelude.{◌≡◌, Bool, true, false, not, ◌||◌, List, [], ◌∷◌, ◌++◌, ℕ, ◌+◌, ◌*◌, ◌-◌, ◌<◌, ◌≤◌, get_or}
-use Rattle.std.proofs.Math.Option.{Option, none, some}
+use Rattle.std.specs.Prelude.{◌≡◌, Bool, true, false, not, ◌||◌, List, [], ◌∷◌, ◌++◌, ℕ, ◌+◌, ◌*◌, ◌-◌, ◌<◌, ◌≤◌, get_or, Option, Some, None}
+use Rattle.std.proofs.Math.Option.{Option as Maybe, none, some}
 use Rattle.meaning.specs.Base.{is_yes, if, any, keep, first}
 use Rattle.meaning.specs.Ast.{TyVar, dvar, Ty, var, con, arrow, Pred, pred, same_pred, Binder}
 use Rattle.meaning.specs.Map.{tyvars, elem}
@@ -12,14 +12,12 @@ use Rattle.scope.specs.Scope.{Scope}
 use Rattle.supers.specs.declared.rows.Row.{Row}
 use Rattle.supers.specs.declared.rows.Row.TheVariants.{Pending, Replaced}
 use Rattle.terms.specs.Rows.{replaced_from}
-use Rattle.pending.specs.declared.own.Twin.{Twin}
-use Rattle.pending.specs.declared.own.Twin.TheVariants.{At, Nothing}
 use Rattle.pending.specs.Rows.{NumbersApart, Rotated}
 
 -- ## Binders with equal predicates
 
 -- The first of the binders with this predicate.
-abbrev pub first_of : List Binder → Pred → Option Binder
+abbrev pub first_of : List Binder → Pred → Maybe Binder
 first_of bs p = first (λ (b : Binder). is_yes (same_pred b.1 p)) bs
 
 -- Some binder has this predicate.
@@ -65,11 +63,11 @@ pub record ReadyOwn (ns w ev od bs : List ℕ) (top n t : ℕ) : Type 0 where
 -- ## The first row of a predicate
 
 -- The binders os, and the dictionary's number of the first of them with the predicate p.
-abbrev pub EarlierAs : List Binder → Pred → Twin → Type 0
-EarlierAs os p (At d) = (first_of os p ≡ some (dvar d, p)) × (d < first_fresh)
-EarlierAs os p Nothing = first_of os p ≡ none
+abbrev pub EarlierAs : List Binder → Pred → Option ℕ → Type 0
+EarlierAs os p (Some d) = (first_of os p ≡ some (dvar d, p)) × (d < first_fresh)
+EarlierAs os p None = first_of os p ≡ none
 
-pub record FindsEarlier (os : List Binder) (p : Pred) (r : Twin) : Type 0 where
+pub record FindsEarlier (os : List Binder) (p : Pred) (r : Option ℕ) : Type 0 where
   pub says : EarlierAs os p r
 
 -- The word x replaces the dictionary of number d: it is that of the first binder with the predicate p, if p is the

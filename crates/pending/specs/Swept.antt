@@ -1,17 +1,26 @@
 -- What applying a substitution to the types of rows asks of the words and gives.
-use Rattle.std.specs.Prelude.{◌≡◌, List, ℕ, ◌+◌, ◌*◌, ◌<◌, ◌≤◌, length, get_or}
+use Rattle.std.specs.Prelude.{◌≡◌, List, ℕ, ◌+◌, ◌*◌, ◌<◌, ◌≤◌, length, get_or, Result, Ok, Err}
 use Rattle.meaning.specs.Budget.{done}
 use Rattle.meaning.specs.Subst.{apply_preds_pending}
 use Rattle.names.specs.Names.{Names}
 use Rattle.ast.specs.Table.{Table, Node}
 use Rattle.errors.specs.Refusals.{Refuses}
+use Rattle.errors.specs.declared.Refusal.{Refusal}
 use Rattle.pairs.specs.Pairs.{sub_at, Sub, Stands}
 use Rattle.supers.specs.Rows.{row_at, binders_in, TypeIn}
 use Rattle.supers.specs.declared.rows.Row.{Row}
 use Rattle.supers.specs.declared.rows.Row.TheVariants.{Pending, Replaced}
-use Rattle.pending.specs.declared.Swept.{Swept}
-use Rattle.pending.specs.declared.Swept.TheVariants.{Done, Refused}
 use Rattle.pending.specs.Rows.{PendingRows}
+
+-- What the rows come to: they are swept, or a refusal; with the first free node and the steps left.
+pub data Swept : Type 0 where
+  Done : ℕ → ℕ → Swept
+  Refused : Refusal → ℕ → ℕ → Swept
+
+-- What the code returned, with what it left.
+abbrev pub swept_of : Result (Unit {0}) Refusal → ℕ → ℕ → Swept
+swept_of (Ok x) top left = Done top left
+swept_of (Err e) top left = Refused e top left
 
 -- The k pairs from at, where the stack ends, and the rows from number j up to number n, whose pending ones have types of the
 -- table; between table and stack is room for 8 words a step.

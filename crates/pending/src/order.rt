@@ -24,9 +24,7 @@ pub fn rotate(binders: &mut [u64], a: usize, i: usize)
     requires i_in_bounds { 3 * i + 3 ≤ length binders.old }
     ensures { Rotated binders.old binders.new a i }
 {
-    let mut k = i;
-    while k > a {
-        k -= 1;
+    for k in (a..i).rev() {
         swap_rows(binders, k);
     }
 }

@@ -15,8 +15,8 @@ use Rattle.ast.proofs.Laws.{low_node}
 use Rattle.pairs.specs.Pairs.{Stands}
 use Rattle.pairs.proofs.Frames.{stands_refl, stands_then, stands_up}
 use Rattle.subst.specs.Schemes.{scheme_of_word}
-use Rattle.scope.specs.Scope.{entry_of, with_entry, env_of, EntryIn, Scope}
-use Rattle.scope.specs.declared.Entry.TheVariants.{Nothing, Closed}
+use Rattle.scope.specs.Scope.{entry_of, with_entry, closed_entry, env_of, EntryIn, Scope}
+use Rattle.scope.specs.declared.Entry.TheVariants.{Nothing}
 use Rattle.scope.proofs.EntryLaws.{entry_long}
 use Rattle.scope.proofs.Fines.{mono_is, mono_held}
 use Rattle.scope.proofs.Laws.{scope_put, scope_with, scope_kept, env_kept}
@@ -58,7 +58,7 @@ module _ {ns w ev od : List ℕ} {top p : ℕ} {r : Primitive} (R : ReadyOne ns 
         ∙ sym Q.is
 
     -- What always holds of an entry.
-    one_entry : EntryIn ns w' (top + r.many) (Closed 0 0 t)
+    one_entry : EntryIn ns w' (top + r.many) (closed_entry 0 0 t)
     one_entry = record { held = mono_held ns M.node; closed = rw one_scheme (kind_closed p R.first) }
 
     -- The rows as they were, over the new words.
@@ -66,15 +66,15 @@ module _ {ns w ev od : List ℕ} {top p : ℕ} {r : Primitive} (R : ReadyOne ns 
     one_scope = scope_kept R.scope M.stands.low (omega arith) M.node.table
 
     -- It is added.
-    pub one_added : {ev' : List ℕ} → ev' ≡ with_entry ev r.number (Closed 0 0 t) → GivesOne ns w w' ev ev' od top p (top + r.many)
+    pub one_added : {ev' : List ℕ} → ev' ≡ with_entry ev r.number (closed_entry 0 0 t) → GivesOne ns w w' ev ev' od top p (top + r.many)
     one_added {ev'} e = rw e (record {
       stands = M.stands;
       long = M.long;
-      wide = entry_long ev r.number (Closed 0 0 t);
+      wide = entry_long ev r.number (closed_entry 0 0 t);
       grown = ap (λ n. top + n) Q.many;
       table = M.node.table;
-      scope = scope_with one_scope r.number (Closed 0 0 t) one_below one_entry;
-      is = scope_put one_scope r.number one_below (Closed 0 0 t) (kind p) (ap some one_scheme)
+      scope = scope_with one_scope r.number (closed_entry 0 0 t) one_below one_entry;
+      is = scope_put one_scope r.number one_below (closed_entry 0 0 t) (kind p) (ap some one_scheme)
           ∙ rw (Q.number, title_is R.built p R.first, env_kept R.scope M.stands.low);
     })
 

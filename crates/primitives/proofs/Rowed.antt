@@ -2,7 +2,7 @@
 use mathlib.Core.Path.{◌≡◌, refl}
 use mathlib.Core.Bool.{true}
 use mathlib.Core.List.{List, [], ◌∷◌}
-use Prim.Native.Nat.{ℕ, zero, suc, ◌+◌, ◌*◌, ◌<◌, ◌≤◌}
+use Prim.Native.Nat.{ℕ, zero, suc, ◌+◌, ◌<◌, ◌≤◌}
 use native.Mathlib.Omega.{arith}
 use native.Mathlib.Decide.{ℕ_discrete, dec_lt}
 use lib.ListN.{get_or}
@@ -29,17 +29,21 @@ by_seven P a b c d e f g (suc (suc (suc (suc (suc zero))))) h = f
 by_seven P a b c d e f g (suc (suc (suc (suc (suc (suc zero)))))) h = g
 by_seven P a b c d e f g (suc (suc (suc (suc (suc (suc (suc p))))))) h = absurd (omega arith)
 
--- The table's words, as the code has them.
-unfoldable pub prim_words : List ℕ
-prim_words = 2 ∷ 0 ∷ 2 ∷ 0 ∷ 3 ∷ 1 ∷ 2 ∷ 1 ∷ 4 ∷ 1 ∷ 2 ∷ 1 ∷ 5 ∷ 0 ∷ 2 ∷ 1 ∷ 6 ∷ 0 ∷ 2 ∷ 1 ∷ 7 ∷ 0 ∷ 2 ∷ 0 ∷ 8 ∷ 1 ∷ 1 ∷ 1 ∷ []
+-- One row of the table.
+abbrev row : ℕ → ℕ → ℕ → ℕ → Primitive
+row n a m r = record { number = n; argument = a; many = m; result = r }
+
+-- The table's rows, as the code has them.
+unfoldable pub prim_rows : List Primitive
+prim_rows = row 2 0 2 0 ∷ row 3 1 2 1 ∷ row 4 1 2 1 ∷ row 5 0 2 1 ∷ row 6 0 2 1 ∷ row 7 0 2 0 ∷ row 8 1 1 1 ∷ []
 
 -- A row of it.
 abbrev pub prim_row : ℕ → Primitive
-prim_row p = record { number = get_or prim_words (4 * p) 0; argument = get_or prim_words (4 * p + 1) 0; many = get_or prim_words (4 * p + 2) 0; result = get_or prim_words (4 * p + 3) 0 }
+prim_row p = get_or prim_rows p (row 0 0 0 0)
 
 -- Each row is that of its primitive.
 pub row_says : (p : ℕ) → p < 7 → Row p (prim_row p)
-unfolding prim_words title kind nth primitives arity curried base_ty eqb ℕ_discrete
+unfolding prim_rows title kind nth primitives arity curried base_ty eqb ℕ_discrete
 row_says p h = by_seven (λ p. Row p (prim_row p)) (record { number = refl; many = refl; argument = lit< tt; result = lit< tt; is = refl })
     (record { number = refl; many = refl; argument = lit< tt; result = lit< tt; is = refl })
     (record { number = refl; many = refl; argument = lit< tt; result = lit< tt; is = refl })

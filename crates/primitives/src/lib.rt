@@ -5,7 +5,9 @@ ghost use Rattle.std.specs.Prelude.{◌++◌, ◌+◌, ◌*◌, ◌<◌, ◌≤�
 ghost use Rattle.ast.specs.Table.{Node};
 ghost use Rattle.primitives.specs.Prims.{Row, TypeMade, ReadyOne, GivesOne, ReadyPrims, GivesPrims};
 
+use ast::Base;
 use scope::Entry;
+use subst::Scheme;
 
 // A row: the number of the primitive's name, the name's number of its arguments' type, how many arguments it takes, and
 // the name's number of its result's type.
@@ -18,21 +20,56 @@ pub struct Primitive {
 }
 
 // The rows in the byte order of the names. Type 0 is `Int`, type 1 is `Bool`.
-const PRIMITIVES: [usize; 28] = [
+const PRIMITIVES: [Primitive; 7] = [
     // primAddInt: Int -> Int -> Int
-    2, 0, 2, 0,
+    Primitive {
+        number: 2,
+        argument: 0,
+        many: 2,
+        result: 0,
+    },
     // primAndBool: Bool -> Bool -> Bool
-    3, 1, 2, 1,
+    Primitive {
+        number: 3,
+        argument: 1,
+        many: 2,
+        result: 1,
+    },
     // primEqBool: Bool -> Bool -> Bool
-    4, 1, 2, 1,
+    Primitive {
+        number: 4,
+        argument: 1,
+        many: 2,
+        result: 1,
+    },
     // primEqInt: Int -> Int -> Bool
-    5, 0, 2, 1,
+    Primitive {
+        number: 5,
+        argument: 0,
+        many: 2,
+        result: 1,
+    },
     // primLtInt: Int -> Int -> Bool
-    6, 0, 2, 1,
+    Primitive {
+        number: 6,
+        argument: 0,
+        many: 2,
+        result: 1,
+    },
     // primMulInt: Int -> Int -> Int
-    7, 0, 2, 0,
+    Primitive {
+        number: 7,
+        argument: 0,
+        many: 2,
+        result: 0,
+    },
     // primNotBool: Bool -> Bool
-    8, 1, 1, 1,
+    Primitive {
+        number: 8,
+        argument: 1,
+        many: 1,
+        result: 1,
+    },
 ];
 
 // The row of the p-th primitive.
@@ -40,74 +77,67 @@ fn row_of(p: usize) -> Primitive
     requires { p < 7 }
     ensures { Row p result }
 {
-    let i = 4 * p;
-    Primitive {
-        number: PRIMITIVES[i],
-        argument: PRIMITIVES[i + 1],
-        many: PRIMITIVES[i + 2],
-        result: PRIMITIVES[i + 3],
-    }
+    PRIMITIVES[p]
 }
 
 // The type of so many arguments of type a and a result of type b, as new nodes from top on; its word.
-fn make_type(base: &[u64], work: &mut [u64], top: usize, a: usize, many: usize, b: usize) -> usize
-    requires base_len_bound { length base.now ≤ 4 * top }
-    requires node { Node (base.now ++ work.old) top a }
-    requires node_2 { Node (base.now ++ work.old) top b }
-    requires many_in_bounds { 4 * (top + many) ≤ length (base.now ++ work.old) }
-    ensures { TypeMade (base.now ++ work.old) (base.now ++ work.new) top many a b result }
+fn make_type(base: Base, work: &mut [u64], top: usize, a: usize, many: usize, b: usize) -> usize
+    requires base_len_bound { length base.words.now ≤ 4 * top }
+    requires node { Node (base.words.now ++ work.old) top a }
+    requires node_2 { Node (base.words.now ++ work.old) top b }
+    requires many_in_bounds { 4 * (top + many) ≤ length (base.words.now ++ work.old) }
+    ensures { TypeMade (base.entry.words.now ++ work.old) (base.entry.words.now ++ work.new) top many a b result }
 {
     let mut t = b;
-    let mut i: usize = 0;
-    while i < many {
+    for i in 0..many {
         let n = top + i;
-        ast::push(base, work, n, 2, a, t);
+        ast::push(base, work, n, ast::ARROW, a, t);
         t = names::NODE + n;
-        i += 1;
     }
     t
 }
 
 // Makes the type of the p-th primitive and writes the row of its name; the first free node.
 fn add_one(
-    base: &[u64],
+    base: Base,
     work: &mut [u64],
-    names: &[u64],
     env: &mut [u64],
     order: &[u64],
     top: usize,
     p: usize,
 ) -> usize
-    requires base_len_bound { length base.now ≤ 4 * top }
-    requires ready_one { ReadyOne names.now (base.now ++ work.old) env.old order.now top p }
-    ensures { GivesOne names.now (base.now ++ work.old) (base.now ++ work.new) env.old env.new order.now top p result }
+    requires base_len_bound { length base.words.now ≤ 4 * top }
+    requires ready_one { ReadyOne base.names.now (base.words.now ++ work.old) env.old order.now top p }
+    ensures { GivesOne base.entry.names.now (base.entry.words.now ++ work.old) (base.entry.words.now ++ work.new) env.old env.new order.now top p result }
 {
     let r = row_of(p);
     let a = names::NULLARY + r.argument;
     let b = names::NULLARY + r.result;
     let t = make_type(base, work, top, a, r.many, b);
-    scope::put(env, r.number, Entry::Closed(ast::NIL, ast::NIL, t));
+    let scheme = Scheme {
+        vars: ast::NIL,
+        preds: ast::NIL,
+        ty: t,
+    };
+    scope::put(env, r.number, Entry::Closed(scheme));
     top + r.many
 }
 
 // `add_primitives`: fills an environment without schemes with those of the primitives; the first free node.
 pub fn add_primitives(
-    base: &[u64],
+    base: Base,
     work: &mut [u64],
-    names: &[u64],
     env: &mut [u64],
     order: &[u64],
     top: usize,
 ) -> usize
-    requires base_len_bound { length base.now ≤ 4 * top }
-    requires ready_prims { ReadyPrims names.now (base.now ++ work.old) env.old order.now top }
-    ensures { GivesPrims names.now (base.now ++ work.old) (base.now ++ work.new) env.old env.new order.now top result }
+    requires base_len_bound { length base.words.now ≤ 4 * top }
+    requires ready_prims { ReadyPrims base.names.now (base.words.now ++ work.old) env.old order.now top }
+    ensures { GivesPrims base.entry.names.now (base.entry.words.now ++ work.old) (base.entry.words.now ++ work.new) env.old env.new order.now top result }
 {
     let mut t = top;
-    let mut p: usize = 0;
-    while p < 7 {
-        t = add_one(base, work, names, env, order, t, p);
-        p += 1;
+    for p in 0..7 {
+        t = add_one(base, work, env, order, t, p);
     }
     t
 }

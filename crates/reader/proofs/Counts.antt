@@ -1,5 +1,5 @@
 -- Counts and numbers of things, from the field of two bytes that holds them.
-use mathlib.Core.Path.{◌≡◌, refl, sym, ◌∙◌}
+use mathlib.Core.Path.{◌≡◌, refl}
 use mathlib.Core.Bool.{Bool, true, false}
 use mathlib.Core.List.{List, [], ◌∷◌}
 use mathlib.Core.Option.{Option, none, some}
@@ -13,9 +13,8 @@ use Rattle.meaning.specs.Reader.{Read, got, bad, onward, or_bad, item, unless, f
 use Rattle.theorems.proofs.Tests.{ltb_of, ltb_true}
 use Rattle.theorems.proofs.Readers.{one_of_refused}
 use Rattle.errors.specs.declared.Refusal.TheVariants.{Format, Limit}
-use Rattle.reader.specs.declared.Field.TheVariants.{Is, Cut}
-use Rattle.reader.specs.declared.Count.TheVariants.{Is as Count-Is, Bad as Count-Bad}
-use Rattle.reader.specs.declared.Picked.TheVariants.{At, Nothing}
+use Rattle.std.specs.Prelude.{Option as Option-of, Some, None, Result, Ok, Err}
+use Rattle.std.proofs.Common.{ok_or}
 use Rattle.reader.proofs.Fields.{numeral_is, numeral_cut}
 use Rattle.reader.specs.Verdicts.{IsField, IsCount, Picks}
 
@@ -50,35 +49,29 @@ ltb_not m n h = go (ltb m n) refl
     go true e = absurd (let i = ltb_true m n e in omega arith)
     go false e = refl
 
+-- What `ok_or` was asked of.
+pub some_was : {A E : Type 0} (o : Option-of A) (e : E) (r : Result A E) (a : A) → r ≡ ok_or o e → r ≡ Ok a → o ≡ Some a
+some_was (Some b) e r a h k = cc
+some_was None e r a h k = absurd (cc)
+
+pub none_was : {A E : Type 0} (o : Option-of A) (e d : E) (r : Result A E) → r ≡ ok_or o e → r ≡ Err d → (o ≡ None) × (d ≡ e)
+none_was (Some b) e d r h k = absurd (cc)
+none_was None e d r h k = (refl, cc)
+
 -- ## counts
-pub count_cut : (most : ℕ) (bytes : List ℕ) (at : ℕ) → IsField 2 bytes at Cut → IsCount most bytes at (Count-Bad (Format at))
+pub count_cut : (most : ℕ) (bytes : List ℕ) (at : ℕ) → IsField 2 bytes at None → IsCount most bytes at (Err (Format at))
 unfolding counted
 count_cut most bytes at f = record { is = item_bad limit (numeral 2) _ at _ _ f.is }
 
-pub count_over : (most : ℕ) (bytes : List ℕ) (at n : ℕ) → IsField 2 bytes at (Is n) → most < n → IsCount most bytes at (Count-Bad (Limit at))
+pub count_over : (most : ℕ) (bytes : List ℕ) (at n : ℕ) → IsField 2 bytes at (Some n) → most < n → IsCount most bytes at (Err (Limit at))
 unfolding counted
 count_over most bytes at n f h = record { is = item_fails limit (numeral 2) _ at _ n _ _ f.is.0 (failed (ltb most) n (ltb_of most n h)) }
 
-pub count_is : (most : ℕ) (bytes : List ℕ) (at n : ℕ) → IsField 2 bytes at (Is n) → n ≤ most → IsCount most bytes at (Count-Is n)
+pub count_is : (most : ℕ) (bytes : List ℕ) (at n : ℕ) → IsField 2 bytes at (Some n) → n ≤ most → IsCount most bytes at (Ok n)
 unfolding counted
 count_is most bytes at n f h = record { is = (item_got limit (numeral 2) _ at _ n n _ _ f.is.0 (passed (ltb most) n (ltb_not most n h)), h, f.is.1) }
 
 -- ## numbers of things
-bad_not_got : {A : Type 0} (r : _) (a : A) (next : ℕ) (rest : List ℕ) → bad r ≡ got a next rest → ⊥
-bad_not_got r a next rest e = let z : ◌≡◌ {A = ℕ} 0 1 = cc in omega arith
-
-got_same : (v w next next' : ℕ) (rest rest' : List ℕ) → got v next rest ≡ got w next' rest' → v ≡ w
-got_same v w next next' rest rest' e = cc
-
-pub pick_cut : (n : ℕ) (bytes : List ℕ) (at : ℕ) → IsField 2 bytes at Cut → Picks n bytes at Nothing
-pick_cut n bytes at f = record { is = λ v next rest e. absurd (bad_not_got _ v next rest (sym f.is ∙ e)) }
-
-pub pick_over : (n : ℕ) (bytes : List ℕ) (at v : ℕ) → IsField 2 bytes at (Is v) → n ≤ v → Picks n bytes at Nothing
-pick_over n bytes at v f h = record { is = λ w next rest e. let i = got_same v w _ _ _ _ (sym f.is.0 ∙ e) in omega arith }
-
-pub pick_is : (n : ℕ) (bytes : List ℕ) (at v : ℕ) → IsField 2 bytes at (Is v) → v < n → Picks n bytes at (At v)
-pick_is n bytes at v f h = record { is = (f.is, h) }
-
 nth_some : {A : Type 0} (xs : List A) (v : ℕ) → v < count xs → (x : A) × (nth xs v ≡ some x)
 unfolding nth count
 nth_some [] v h = absurd (omega arith)
@@ -86,7 +79,7 @@ nth_some (x ∷ xs) zero h = (x, refl)
 nth_some (x ∷ xs) (suc v) h = nth_some xs v (omega arith)
 
 -- One of n things, whatever they are.
-pub picked : {A : Type 0} (xs : List A) (n : ℕ) (bytes : List ℕ) (at v : ℕ) → count xs ≡ n → Picks n bytes at (At v)
+pub picked : {A : Type 0} (xs : List A) (n : ℕ) (bytes : List ℕ) (at v : ℕ) → count xs ≡ n → Picks n bytes at (Some v)
     → (x : A) × (nth xs v ≡ some x) × (one_of xs at (from at bytes) ≡ got x (at + 2) (from (at + 2) bytes))
 unfolding one_of
 picked xs n bytes at v c p =
@@ -94,7 +87,7 @@ picked xs n bytes at v c p =
     (s.0, s.1, item_got format (numeral 2) (nth xs) at _ v s.0 _ _ p.is.0.0 s.1)
 
 -- None of them.
-pub none_picked : {A : Type 0} (xs : List A) (n : ℕ) (bytes : List ℕ) (at : ℕ) → count xs ≡ n → Picks n bytes at Nothing → one_of xs at (from at bytes) ≡ bad (format at)
+pub none_picked : {A : Type 0} (xs : List A) (n : ℕ) (bytes : List ℕ) (at : ℕ) → count xs ≡ n → Picks n bytes at None → one_of xs at (from at bytes) ≡ bad (format at)
 unfolding one_of
 none_picked xs n bytes at c p = go (dec_lt (length bytes) (at + 2))
   where

@@ -2,15 +2,19 @@
 use mathlib.Core.Path.{◌≡◌, refl, ap, ◌∙◌, subst}
 use mathlib.Core.List.{List, [], ◌∷◌}
 use mathlib.Core.Option.{none, some}
-use Prim.Native.Nat.{ℕ, zero, suc, ◌+◌, ◌*◌, ◌<◌, ◌≤◌}
+use Prim.Native.Nat.{ℕ, zero, suc, ◌+◌, ◌-◌, ◌<◌, ◌≤◌}
 use native.Mathlib.Omega.{arith}
 use lib.ListN.{length, get_or}
+use Rattle.std.specs.List.{slice_range}
+use Rattle.std.specs.Int.{from_le_bytes, w16, w64}
+use Rattle.std.proofs.Common.{drop}
+use Rattle.std.proofs.lemmas.List.{get_or-drop, get_or-take}
 use Rattle.meaning.specs.Base.{found, count}
 use Rattle.meaning.specs.Errors.{format}
 use Rattle.meaning.specs.Reader.{got, bad, onward, or_bad, front, from, field, little, numeral}
 use Rattle.theorems.proofs.Readers.{from_from}
 use Rattle.reader.specs.Bytes.{text}
-use Rattle.reader.specs.declared.Field.TheVariants.{Is, Cut}
+use Rattle.std.specs.Prelude.{Some, None}
 use Rattle.reader.specs.Verdicts.{IsField}
 
 -- Both ways of counting say the same.
@@ -64,35 +68,40 @@ pub field_cut : (k : ℕ) (bytes : List ℕ) (at : ℕ) → length bytes < at + 
 unfolding field or_bad
 field_cut k bytes at h = rw (front_cut k bytes at h) refl
 
-pub numeral_is : (k : ℕ) (bytes : List ℕ) (at v : ℕ) → at + k ≤ length bytes → v ≡ little (text bytes at k) → IsField k bytes at (Is v)
+pub numeral_is : (k : ℕ) (bytes : List ℕ) (at v : ℕ) → at + k ≤ length bytes → v ≡ little (text bytes at k) → IsField k bytes at (Some v)
 unfolding numeral onward
 numeral_is k bytes at v h e = record { is = (rw (field_is k bytes at h, e) refl, h) }
 
-pub numeral_cut : (k : ℕ) (bytes : List ℕ) (at : ℕ) → length bytes < at + suc k → IsField (suc k) bytes at Cut
+pub numeral_cut : (k : ℕ) (bytes : List ℕ) (at : ℕ) → length bytes < at + suc k → IsField (suc k) bytes at None
 unfolding numeral onward
 numeral_cut k bytes at h = record { is = rw (field_cut k bytes at h) refl }
+
+-- A byte of what is lent from a place on.
+part_byte : (bytes part : List ℕ) (at i j : ℕ) → part ≡ slice_range bytes at (length bytes) → j < length bytes → at + i ≡ j → get_or part i 0 ≡ get_or bytes j 0
+part_byte bytes part at i j e h q = let k : i < length bytes - at = omega arith in
+    rw e (get_or-take (length bytes - at) (drop at bytes) i 0 k ∙ get_or-drop at bytes i 0) ∙ ap (λ (n : ℕ). get_or bytes n 0) q
 
 -- Two and eight bytes as numbers.
 pub one_byte : (bytes : List ℕ) (at v : ℕ) → v ≡ get_or bytes at 0 → v ≡ little (text bytes at 1)
 unfolding text little
 one_byte bytes at v e = omega arith
 
-pub two_bytes : (bytes : List ℕ) (at v : ℕ) → v ≡ get_or bytes at 0 + 256 * get_or bytes (at + 1) 0 → v ≡ little (text bytes at 2)
+pub two_bytes : (bytes part : List ℕ) (at v : ℕ) → part ≡ slice_range bytes at (length bytes) → at + 2 ≤ length bytes → v ≡ from_le_bytes w16 part → v ≡ little (text bytes at 2)
 unfolding text little
-two_bytes bytes at v e = omega arith
+two_bytes bytes part at v p h e =
+    let a = part_byte bytes part at 0 at p (omega arith) (omega arith) in
+    let b = part_byte bytes part at 1 (at + 1) p (omega arith) (omega arith) in
+    omega (arith, e, a, b)
 
-next : (bytes : List ℕ) (i j k : ℕ) → i + j ≡ k → get_or bytes (i + j) 0 ≡ get_or bytes k 0
-next bytes i j k e = ap (λ n. get_or bytes n 0) e
-
-pub eight_bytes : (bytes : List ℕ) (at a b c d : ℕ) → a ≡ get_or bytes at 0 + 256 * get_or bytes (at + 1) 0
-    → b ≡ get_or bytes (at + 2) 0 + 256 * get_or bytes (at + 2 + 1) 0 → c ≡ get_or bytes (at + 4) 0 + 256 * get_or bytes (at + 4 + 1) 0
-    → d ≡ get_or bytes (at + 6) 0 + 256 * get_or bytes (at + 6 + 1) 0 → a + 65536 * b + 4294967296 * c + 281474976710656 * d ≡ little (text bytes at 8)
+pub eight_bytes : (bytes part : List ℕ) (at v : ℕ) → part ≡ slice_range bytes at (length bytes) → at + 8 ≤ length bytes → v ≡ from_le_bytes w64 part → v ≡ little (text bytes at 8)
 unfolding text little
-eight_bytes bytes at a b c d p q r s =
-    let u = next bytes (at + 1) 1 (at + 2) (omega arith) in
-    let v = next bytes (at + 1 + 1) 1 (at + 2 + 1) (omega arith) in
-    let w = next bytes (at + 1 + 1 + 1) 1 (at + 4) (omega arith) in
-    let x = next bytes (at + 1 + 1 + 1 + 1) 1 (at + 4 + 1) (omega arith) in
-    let y = next bytes (at + 1 + 1 + 1 + 1 + 1) 1 (at + 6) (omega arith) in
-    let z = next bytes (at + 1 + 1 + 1 + 1 + 1 + 1) 1 (at + 6 + 1) (omega arith) in
-    omega (arith, p, q, r, s, u, v, w, x, y, z)
+eight_bytes bytes part at v p h e =
+    let a₀ = part_byte bytes part at 0 at p (omega arith) (omega arith) in
+    let a₁ = part_byte bytes part at 1 (at + 1) p (omega arith) (omega arith) in
+    let a₂ = part_byte bytes part at 2 (at + 1 + 1) p (omega arith) (omega arith) in
+    let a₃ = part_byte bytes part at 3 (at + 1 + 1 + 1) p (omega arith) (omega arith) in
+    let a₄ = part_byte bytes part at 4 (at + 1 + 1 + 1 + 1) p (omega arith) (omega arith) in
+    let a₅ = part_byte bytes part at 5 (at + 1 + 1 + 1 + 1 + 1) p (omega arith) (omega arith) in
+    let a₆ = part_byte bytes part at 6 (at + 1 + 1 + 1 + 1 + 1 + 1) p (omega arith) (omega arith) in
+    let a₇ = part_byte bytes part at 7 (at + 1 + 1 + 1 + 1 + 1 + 1 + 1) p (omega arith) (omega arith) in
+    omega (arith, e, a₀, a₁, a₂, a₃, a₄, a₅, a₆, a₇)

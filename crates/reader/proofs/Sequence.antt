@@ -3,18 +3,18 @@ use mathlib.Core.Path.{◌≡◌, refl, sym, ap, ◌∙◌, subst}
 use mathlib.Core.List.{List}
 use Prim.Native.Nat.{ℕ}
 use Rattle.meaning.specs.Reader.{Read, got, bad, Reader, onward, from, pair}
-use Rattle.reader.specs.declared.Place.{Place}
-use Rattle.reader.specs.declared.Place.TheVariants.{Next, Bad}
+use Rattle.std.specs.Prelude.{Result, Ok, Err}
+use Rattle.errors.specs.declared.Refusal.{Refusal}
 use Rattle.reader.specs.Verdicts.{Passes, Verdict}
 
 -- This value was read, and what follows it has the verdict.
-pub goes_with : {A B : Type 0} (bytes : List ℕ) (o : Read A) (f : A → Reader B) (a : A) (p : ℕ) (r : Place) → o ≡ got a p (from p bytes)
+pub goes_with : {A B : Type 0} (bytes : List ℕ) (o : Read A) (f : A → Reader B) (a : A) (p : ℕ) (r : Result ℕ Refusal) → o ≡ got a p (from p bytes)
     → Verdict bytes (f a p (from p bytes)) r → Verdict bytes (onward o f) r
 unfolding onward
 goes_with bytes o f a p r e h = subst (λ q. Verdict bytes (onward q f) r) (sym e) h
 
 -- A value was read, and what follows it has the verdict.
-pub goes : {A B : Type 0} (bytes : List ℕ) (o : Read A) (f : A → Reader B) (p : ℕ) (r : Place) → Passes bytes o p
+pub goes : {A B : Type 0} (bytes : List ℕ) (o : Read A) (f : A → Reader B) (p : ℕ) (r : Result ℕ Refusal) → Passes bytes o p
     → ((a : A) → Verdict bytes (f a p (from p bytes)) r) → Verdict bytes (onward o f) r
 goes bytes o f p r g h = goes_with bytes o f g.value p r g.is (h g.value)
 
@@ -24,10 +24,10 @@ unfolding onward
 stops o f x e = ap (λ q. onward q f) e
 
 -- What was read is put into a larger thing.
-pub ends : {A B : Type 0} (bytes : List ℕ) (o : Read A) (f : A → B) (r : Place) → Verdict bytes o r → Verdict bytes (onward o (λ a at bs. got (f a) at bs)) r
+pub ends : {A B : Type 0} (bytes : List ℕ) (o : Read A) (f : A → B) (r : Result ℕ Refusal) → Verdict bytes o r → Verdict bytes (onward o (λ a at bs. got (f a) at bs)) r
 unfolding onward
-ends bytes o f (Next p) g = record { value = f g.value; is = ap (λ q. onward q (λ a at bs. got (f a) at bs)) g.is; within = g.within }
-ends bytes o f (Bad e) g = stops o (λ a at bs. got (f a) at bs) _ g
+ends bytes o f (Ok p) g = record { value = f g.value; is = ap (λ q. onward q (λ a at bs. got (f a) at bs)) g.is; within = g.within }
+ends bytes o f (Err e) g = stops o (λ a at bs. got (f a) at bs) _ g
 
 -- ## Things read as pairs, and put together in another way
 onward_put : {A B C : Type 0} (o : Read A) (f : A → B) (g : B → C) → onward (onward o (λ a at bs. got (f a) at bs)) (λ b at bs. got (g b) at bs) ≡ onward o (λ a at bs. got (g (f a)) at bs)
@@ -68,18 +68,18 @@ flat_four {A = A} {B = B} {C = C} {D = D} {E = E} f r s t u at bs = go (r at bs)
     go (bad x) = refl
 
 -- The verdict on a pair is that on its parts put together.
-pub paired : {A B C : Type 0} (bytes : List ℕ) (r : Reader A) (s : Reader B) (f : A → B → C) (at : ℕ) (bs : List ℕ) (q : Place)
+pub paired : {A B C : Type 0} (bytes : List ℕ) (r : Reader A) (s : Reader B) (f : A → B → C) (at : ℕ) (bs : List ℕ) (q : Result ℕ Refusal)
     → Verdict bytes (pair r s at bs) q → Verdict bytes (onward (r at bs) (λ a at₁ bs₁. onward (s at₁ bs₁) (λ b at₂ bs₂. got (f a b) at₂ bs₂))) q
 paired {A = A} {B = B} bytes r s f at bs q v =
     subst (λ o. Verdict bytes o q) (flat_two f r s at bs) (ends bytes (pair r s at bs) (λ (x : A × B). f x.0 x.1) q v)
 
 -- The same of three and of four parts.
-pub three_paired : {A B C D : Type 0} (bytes : List ℕ) (r : Reader A) (s : Reader B) (t : Reader C) (f : A → B → C → D) (at : ℕ) (bs : List ℕ) (q : Place) → Verdict bytes (pair r (pair s t) at bs) q
+pub three_paired : {A B C D : Type 0} (bytes : List ℕ) (r : Reader A) (s : Reader B) (t : Reader C) (f : A → B → C → D) (at : ℕ) (bs : List ℕ) (q : Result ℕ Refusal) → Verdict bytes (pair r (pair s t) at bs) q
     → Verdict bytes (onward (r at bs) (λ a at₁ bs₁. onward (s at₁ bs₁) (λ b at₂ bs₂. onward (t at₂ bs₂) (λ c at₃ bs₃. got (f a b c) at₃ bs₃)))) q
 three_paired {A = A} {B = B} {C = C} bytes r s t f at bs q v =
     subst (λ o. Verdict bytes o q) (flat_three f r s t at bs) (ends bytes (pair r (pair s t) at bs) (λ (x : A × (B × C)). f x.0 x.1.0 x.1.1) q v)
 
-pub four_paired : {A B C D E : Type 0} (bytes : List ℕ) (r : Reader A) (s : Reader B) (t : Reader C) (u : Reader D) (f : A → B → C → D → E) (at : ℕ) (bs : List ℕ) (q : Place)
+pub four_paired : {A B C D E : Type 0} (bytes : List ℕ) (r : Reader A) (s : Reader B) (t : Reader C) (u : Reader D) (f : A → B → C → D → E) (at : ℕ) (bs : List ℕ) (q : Result ℕ Refusal)
     → Verdict bytes (pair r (pair s (pair t u)) at bs) q
     → Verdict bytes (onward (r at bs) (λ a at₁ bs₁. onward (s at₁ bs₁) (λ b at₂ bs₂. onward (t at₂ bs₂) (λ c at₃ bs₃. onward (u at₃ bs₃) (λ d at₄ bs₄. got (f a b c d) at₄ bs₄))))) q
 four_paired {A = A} {B = B} {C = C} {D = D} bytes r s t u f at bs q v =

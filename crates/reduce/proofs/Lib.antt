@@ -1,3 +1,4 @@
+pub mod Seen
 -- Laws that the proofs of several functions use.
 pub mod Ones
 pub mod Marks

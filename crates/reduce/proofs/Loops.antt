@@ -31,8 +31,8 @@ use Rattle.supers.proofs.GivenLaws.{kept_list, kept_few}
 use Rattle.resolve.specs.Resolves.{Declared}
 use Rattle.resolve.proofs.Goals.{declared_kept}
 use Rattle.reduce.specs.Reduces.{preds_in, add_discharged, discharged_in, add_residual, residuals_in, Became, ReadyReduce, row_out, found_for, RowDone, GivesRow, GivesReduced}
-use Rattle.reduce.specs.declared.Reduced.{Reduced}
-use Rattle.reduce.specs.declared.Reduced.TheVariants.{Done, Refused}
+use Rattle.reduce.specs.Reduced.{Reduced}
+use Rattle.reduce.specs.Reduced.{Done, Refused}
 use Rattle.reduce.proofs.Marks.{row_same}
 
 -- ## One row of the definition

@@ -18,12 +18,12 @@ use Rattle.supers.specs.Givens.{givens_of}
 use Rattle.supers.specs.declared.Root.{Root}
 use Rattle.supers.specs.declared.rows.Row.{Row}
 use Rattle.supers.specs.declared.rows.Row.TheVariants.{Pending, Replaced}
-use Rattle.supers.specs.declared.Searched.{Searched}
-use Rattle.supers.specs.declared.Searched.TheVariants.{Found, Nothing, Refused}
+use Rattle.supers.specs.Searched.{Searched}
+use Rattle.supers.specs.Searched.{Found, Nothing, Refused}
 use Rattle.supers.proofs.RowLaws.{row_replaced}
 use Rattle.resolve.specs.Resolves.{Declared, ReadyResolve}
 use Rattle.reduce.specs.Reduces.{marked, ReadyReduce, GivesOne, row_out, GivesRow}
-use Rattle.reduce.specs.declared.Reduced.TheVariants.{Done, Refused as Reduced-Refused}
+use Rattle.reduce.specs.Reduced.{Done, Refused as Reduced-Refused}
 
 -- ## Rows by their words
 

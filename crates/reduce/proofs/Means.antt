@@ -9,7 +9,7 @@ use Rattle.theorems.proofs.Reduced as Plain
 use Rattle.theorems.proofs.Theorems.{reduce_promise}
 use Rattle.resolve.specs.Resolves.{Declared}
 use Rattle.reduce.specs.Reduces.{discharged_in, residuals_in, GivesReduced}
-use Rattle.reduce.specs.declared.Reduced.TheVariants.{Done}
+use Rattle.reduce.specs.Reduced.{Done}
 
 pub reduce_means : (ns cl w w' il bs bs' : List ℕ) (top left sp n : ℕ) (gs : List Given) (ps : List Pred) (ce : ClassEnv) → Declared ns cl w top il ce → (top' left' : ℕ)
     → GivesReduced (Declared ns cl w top il) ns w w' bs bs' top left sp n (λ x. reduce x gs ps left) (Done top' left')

@@ -19,11 +19,11 @@ use Rattle.cores.specs.Terms.{core}
 use Rattle.supers.specs.Givens.{givens_of}
 use Rattle.supers.specs.Search.{GivesFound}
 use Rattle.supers.specs.declared.Root.{Root}
-use Rattle.supers.specs.declared.Searched.{Searched}
-use Rattle.supers.specs.declared.Searched.TheVariants.{Found, Nothing, Refused}
+use Rattle.supers.specs.Searched.{Searched}
+use Rattle.supers.specs.Searched.{Found, Nothing, Refused}
 use Rattle.resolve.specs.Resolves.{Declared, ReadyResolve, GivesCore}
-use Rattle.resolve.specs.declared.Resolved.{Resolved}
-use Rattle.resolve.specs.declared.Resolved.TheVariants.{Done, Refused as Resolved-Refused}
+use Rattle.resolve.specs.Resolved.{Resolved}
+use Rattle.resolve.specs.Resolved.{Done, Refused as Resolved-Refused}
 use Rattle.resolve.proofs.Goals.{made, lost}
 use Rattle.reduce.specs.Reduces.{must, HeadNormal, GivesOne}
 

@@ -18,11 +18,11 @@ use Rattle.supers.specs.Givens.{Few}
 use Rattle.supers.specs.declared.Root.{Root}
 use Rattle.supers.specs.declared.rows.Row.{Row}
 use Rattle.supers.specs.declared.rows.Row.TheVariants.{Pending, Replaced}
-use Rattle.supers.specs.declared.Searched.{Searched}
-use Rattle.supers.specs.declared.Searched.TheVariants.{Found, Nothing, Refused}
+use Rattle.supers.specs.Searched.{Searched}
+use Rattle.supers.specs.Searched.{Found, Nothing, Refused}
 use Rattle.resolve.specs.Resolves.{Makes}
-use Rattle.reduce.specs.declared.Reduced.{Reduced}
-use Rattle.reduce.specs.declared.Reduced.TheVariants.{Done, Refused as Reduced-Refused}
+use Rattle.reduce.specs.Reduced.{Reduced}
+use Rattle.reduce.specs.Reduced.{Done, Refused as Reduced-Refused}
 
 -- ## The rows before and after, bs and bs', over the words w and w'
 

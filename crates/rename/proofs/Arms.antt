@@ -16,8 +16,8 @@ use Rattle.ast.specs.declared.Cell.TheVariants.{Nil, Cons}
 use Rattle.ast.proofs.Laws.{tree_var, tree_con, tree_arrow, list_nil, list_cons, var_is, var_node, low_node, low_var, low_list, kept_tree, kept_list, node_more}
 use Rattle.errors.specs.declared.Refusal.TheVariants.{Steps, Depth}
 use Rattle.pairs.proofs.Frames.{stands_refl}
-use Rattle.apply.specs.declared.Applied.{Applied}
-use Rattle.apply.specs.declared.Applied.TheVariants.{Done, Refused}
+use Rattle.apply.specs.Applied.{Applied}
+use Rattle.apply.specs.Applied.{Done, Refused}
 use Rattle.apply.proofs.Hand.{refuse_here}
 use Rattle.apply.proofs.Arms.{no_depth, no_steps, at_var, at_nullary, at_nil}
 use Rattle.rename.specs.Renaming.{renamed_word, Renames, leaves, leaves_list}
@@ -108,8 +108,8 @@ module _ {ns w ls : List ℕ} {top left vs to t depth : ℕ} (R : ReadyRename ns
   too_deep d = record { stands = stands_refl _ _ _; answer = λ s S. refuse_here (no_depth _ _ _ _ d) tt (omega arith) }
 
   -- No step is left.
-  pub no_step : (depth ≡ 0 → ⊥) → left ≡ 0 → TypeRenamed ns w w ls top left depth vs to t (Refused Steps top 0)
-  no_step d l = record { stands = stands_refl _ _ _; answer = λ s S. refuse_here (no_steps _ _ _ _ d l) tt (omega arith) }
+  pub no_step : (depth ≡ 0 → ⊥) → left ≡ 0 → TypeRenamed ns w w ls top left depth vs to t (Refused Steps top left)
+  no_step d l = record { stands = stands_refl _ _ _; answer = λ s S. refuse_here (no_steps _ _ _ _ d l ∙ rw l) tt (omega arith) }
 
   module _ (dp : depth ≡ 0 → ⊥) (lp : left ≡ 0 → ⊥) {r : Shape} (e : r ≡ shape_of w t) where
     -- What a variable's word becomes is a word of the table.

@@ -86,6 +86,11 @@ shift_none (some j) = ap (λ n. some n) (let e : j ≡ 0 + j = omega arith in e)
 pub passed : {w : List ℕ} {top vs : ℕ} (x : ℕ) → Node w top vs → Passed w top vs x vs 0
 passed x N = record { node = N; few = omega arith; same = shift_none _ }
 
+-- A cell that is no first word and rest is the empty list.
+pub no_cell : (r : Cell) → ((a b : ℕ) → r ≡ Cons a b → ⊥) → r ≡ Nil
+no_cell Nil n = refl
+no_cell (Cons a b) n = absurd (n a b refl)
+
 -- What a cell of the list tells.
 module _ {w ls : List ℕ} {top vs to x l i : ℕ} {r : Cell} (R : Renaming w ls top vs to) (P : Passed w top vs x l i) (e : r ≡ cell_of w l) where
   -- Nothing is left: the words that become letters are next.

@@ -18,8 +18,8 @@ use Rattle.ast.proofs.NewNode.{push_con, push_arrow, push_cons}
 use Rattle.errors.specs.declared.Refusal.{Refusal}
 use Rattle.pairs.specs.Pairs.{Stands}
 use Rattle.pairs.proofs.Frames.{stands_then, stands_up, pushed_stands}
-use Rattle.apply.specs.declared.Applied.{Applied}
-use Rattle.apply.specs.declared.Applied.TheVariants.{Done, Refused}
+use Rattle.apply.specs.Applied.{Applied}
+use Rattle.apply.specs.Applied.{Done, Refused}
 use Rattle.apply.proofs.Hand.{Then, then_done, refuse_on}
 use Rattle.apply.proofs.Arms.{at_con, at_arrow, at_cons, arrow_kept, cons_kept}
 use Rattle.apply.proofs.Ways.{Room}

@@ -7,8 +7,8 @@ use Rattle.names.specs.Names.{Names, first_nullary, first_node}
 use Rattle.ast.specs.Table.{tree, list, Node}
 use Rattle.errors.specs.Refusals.{Refuses}
 use Rattle.pairs.specs.Pairs.{Stands}
-use Rattle.apply.specs.declared.Applied.{Applied}
-use Rattle.apply.specs.declared.Applied.TheVariants.{Done, Refused}
+use Rattle.apply.specs.Applied.{Applied}
+use Rattle.apply.specs.Applied.{Done, Refused}
 use Rattle.rename.specs.Renaming.{Renames, leaves, leaves_list}
 
 -- A list vs of variables that become the words from to on, each of them a variable's word, and words ls that become letters.

@@ -4,9 +4,9 @@
 ghost use Rattle.std.specs.Prelude.{◌≡◌, ◌++◌, ◌+◌, ◌*◌, ◌<◌, ◌≤◌, length};
 ghost use Rattle.rename.specs.Renaming.{first_letter, or_word, pos_at, renamed_word};
 ghost use Rattle.rename.specs.Renamed.{Renaming, ReadyRename, TypeRenamed, ListRenamed};
+ghost use Rattle.apply.specs.Applied.{applied_of};
 
-use apply::Applied;
-use ast::{Cell, Shape};
+use ast::{Base, Cell, Room, Shape};
 use errors::Refusal;
 
 // The number of the name of the letter `a`; the other letters follow.
@@ -17,20 +17,17 @@ fn letter_of(letters: &[u64], x: usize) -> usize
     requires { length letters.now ≤ 26 }
     ensures { result ≡ or_word first_letter x (pos_at letters.now x) }
 {
-    let n = letters.len();
-    let mut k: usize = 0;
-    while k < n {
-        if letters[k] as usize == x {
+    for (k, y) in letters.iter().enumerate() {
+        if *y as usize == x {
             return LETTER + k;
         }
-        k += 1;
     }
     x
 }
 
 // What the variable's word x becomes: the i-th of the list vs becomes to + i, the i-th of the words the i-th letter.
 pub fn renamed(
-    base: &[u64],
+    base: Base,
     work: &[u64],
     letters: &[u64],
     top: usize,
@@ -38,88 +35,60 @@ pub fn renamed(
     to: usize,
     x: usize,
 ) -> usize
-    requires { Renaming (base.now ++ work.now) letters.now top vs to }
-    ensures { result ≡ renamed_word (base.now ++ work.now) vs to letters.now x }
+    requires { Renaming (base.words.now ++ work.now) letters.now top vs to }
+    ensures { result ≡ renamed_word (base.entry.words.now ++ work.now) vs to letters.now x }
 {
     let mut l = vs;
     let mut i: usize = 0;
-    loop {
-        let c = ast::cell_at(base, work, l);
-        match c {
-            Cell::Nil => {
-                return letter_of(letters, x);
-            }
-            Cell::Cons(a, b) => {
-                if a == x {
-                    return to + i;
-                }
-                l = b;
-                i += 1;
-            }
+    // No heap: the list is cells of the table, which no iterator walks.
+    while let Cell::Cons(a, b) = ast::cell_at(base, work, l) {
+        if a == x {
+            return to + i;
         }
+        l = b;
+        i += 1;
     }
+    letter_of(letters, x)
 }
 
 // The type t with each variable's word renamed: `apply_type` of every substitution that does the same, with so much depth left.
 #[cycle(rename_rename_list)]
 pub fn rename(
-    base: &[u64],
+    base: Base,
     work: &mut [u64],
-    names: &[u64],
+    room: &mut Room,
     letters: &[u64],
-    top: usize,
-    left: usize,
     depth: usize,
     vs: usize,
     to: usize,
     t: usize,
-) -> Applied
-    requires base_len_bound { length base.now ≤ 4 * top }
-    requires ready_rename { ReadyRename names.now (base.now ++ work.old) letters.now top left vs to t }
-    ensures { TypeRenamed names.now (base.now ++ work.old) (base.now ++ work.new) letters.now top left depth vs to t result }
+) -> Result<usize, Refusal>
+    requires base_len_bound { length base.words.now ≤ 4 * room.old.top }
+    requires ready_rename { ReadyRename base.names.now (base.words.now ++ work.old) letters.now room.old.top room.old.left vs to t }
+    ensures { TypeRenamed base.entry.names.now (base.entry.words.now ++ work.old) (base.entry.words.now ++ work.new) letters.now room.old.top room.old.left depth vs to t (applied_of result room.new.top room.new.left) }
 {
     if depth == 0 {
-        return Applied::Refused(Refusal::Depth, top, left);
+        return Err(Refusal::Depth);
     }
-    if left == 0 {
-        return Applied::Refused(Refusal::Steps, top, 0);
+    if room.left == 0 {
+        return Err(Refusal::Steps);
     }
     let d = depth - 1;
-    let l = left - 1;
+    room.left -= 1;
     let s = ast::shape_at(base, work, t);
     match s {
-        Shape::Var(x) => {
-            let m = renamed(base, work, letters, top, vs, to, x);
-            Applied::Done(m, top, l)
-        }
+        Shape::Var(x) => Ok(renamed(base, work, letters, room.top, vs, to, x)),
         Shape::Con(c, b) => {
             if b == ast::NIL {
-                return Applied::Done(t, top, l);
+                return Ok(t);
             }
-            let r = rename_list(base, work, names, letters, top, l, d, vs, to, b);
-            match r {
-                Applied::Done(m, t2, l2) => {
-                    ast::push(base, work, t2, 1, c, m);
-                    Applied::Done(names::NODE + t2, t2 + 1, l2)
-                }
-                Applied::Refused(e, t2, l2) => Applied::Refused(e, t2, l2),
-            }
+            let m = rename_list(base, work, room, letters, d, vs, to, b)?;
+            Ok(ast::add(base, work, room, ast::CON, c, m))
         }
         Shape::Arrow(a, b) => {
-            let r = rename(base, work, names, letters, top, l, d, vs, to, a);
-            match r {
-                Applied::Done(m, t2, l2) => {
-                    let q = rename(base, work, names, letters, t2, l2, d, vs, to, b);
-                    match q {
-                        Applied::Done(m2, t3, l3) => {
-                            ast::push(base, work, t3, 2, m, m2);
-                            Applied::Done(names::NODE + t3, t3 + 1, l3)
-                        }
-                        Applied::Refused(e, t3, l3) => Applied::Refused(e, t3, l3),
-                    }
-                }
-                Applied::Refused(e, t2, l2) => Applied::Refused(e, t2, l2),
-            }
+            let m = rename(base, work, room, letters, d, vs, to, a)?;
+            let n = rename(base, work, room, letters, d, vs, to, b)?;
+            Ok(ast::add(base, work, room, ast::ARROW, m, n))
         }
     }
 }
@@ -127,39 +96,26 @@ pub fn rename(
 // Each type of the list n with its variables renamed, left to right.
 #[cycle(rename_rename_list)]
 pub fn rename_list(
-    base: &[u64],
+    base: Base,
     work: &mut [u64],
-    names: &[u64],
+    room: &mut Room,
     letters: &[u64],
-    top: usize,
-    left: usize,
     depth: usize,
     vs: usize,
     to: usize,
     n: usize,
-) -> Applied
-    requires base_len_bound { length base.now ≤ 4 * top }
-    requires ready_rename { ReadyRename names.now (base.now ++ work.old) letters.now top left vs to n }
-    ensures { ListRenamed names.now (base.now ++ work.old) (base.now ++ work.new) letters.now top left depth vs to n result }
+) -> Result<usize, Refusal>
+    requires base_len_bound { length base.words.now ≤ 4 * room.old.top }
+    requires ready_rename { ReadyRename base.names.now (base.words.now ++ work.old) letters.now room.old.top room.old.left vs to n }
+    ensures { ListRenamed base.entry.names.now (base.entry.words.now ++ work.old) (base.entry.words.now ++ work.new) letters.now room.old.top room.old.left depth vs to n (applied_of result room.new.top room.new.left) }
 {
     let c = ast::cell_at(base, work, n);
     match c {
-        Cell::Nil => Applied::Done(n, top, left),
+        Cell::Nil => Ok(n),
         Cell::Cons(a, b) => {
-            let r = rename(base, work, names, letters, top, left, depth, vs, to, a);
-            match r {
-                Applied::Done(m, t2, l2) => {
-                    let q = rename_list(base, work, names, letters, t2, l2, depth, vs, to, b);
-                    match q {
-                        Applied::Done(m2, t3, l3) => {
-                            ast::push(base, work, t3, 3, m, m2);
-                            Applied::Done(names::NODE + t3, t3 + 1, l3)
-                        }
-                        Applied::Refused(e, t3, l3) => Applied::Refused(e, t3, l3),
-                    }
-                }
-                Applied::Refused(e, t2, l2) => Applied::Refused(e, t2, l2),
-            }
+            let m = rename(base, work, room, letters, depth, vs, to, a)?;
+            let l = rename_list(base, work, room, letters, depth, vs, to, b)?;
+            Ok(ast::add(base, work, room, ast::CONS, m, l))
         }
     }
 }

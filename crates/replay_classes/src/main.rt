@@ -33,238 +33,136 @@ ghost use Rattle.std.specs.Prelude.{◌≡◌, ◌++◌, length};
 ghost use Rattle.names.specs.Names.{Names};
 ghost use Rattle.cases.specs.Posed.{Posed};
 
-use cases::{goals, input, nodes, rows};
+use ast::{Base, Room};
+use cases::input::Reader;
+use cases::{goals, input, nodes};
+use resolve::Rules;
 use std::io;
 use std::io::Write;
 use supers::Root;
 
-// Resolves a goal of class c at t with 256 levels, or tests a head for overlap; all words for the stack.
+// What is done with a case: a byte that is not 0 is for the test of overlap.
+#[derive(Clone, Copy)]
+enum Task {
+    Resolve,
+    Overlap,
+}
+
+impl From<u8> for Task {
+    fn from(byte: u8) -> Task {
+        match byte {
+            0 => Task::Resolve,
+            _ => Task::Overlap,
+        }
+    }
+}
+
+// What a case asks: the class of a head and the context given, and the class and the type of the goal or of the new head.
+#[derive(Clone, Copy)]
+struct Question {
+    head: usize,
+    context: usize,
+    class: usize,
+    ty: usize,
+}
+
+// Resolves a goal with 256 levels, or tests a head for overlap; all words for the stack.
+// That no type lies in a closed table and no two names are equal stands in each contract: a type that says so would be no
+// plainer, since the functions that are called ask it of `base` itself.
 fn run<W: Write>(
     out: &mut W,
-    base: &[u64],
+    base: Base,
     work: &mut [u64],
-    names: &[u64],
-    classes: &[u64],
-    insts: &[u64],
-    op: usize,
-    top: usize,
-    left: usize,
-    h: usize,
-    l: usize,
-    c: usize,
-    t: usize,
+    room: &mut Room,
+    rules: Rules,
+    task: Task,
+    q: Question,
 ) -> io::Result<()>
-    requires base_len { length base.now ≡ 0 }
-    requires names { Names names.now }
-    requires posed { Posed (base.now ++ work.old) (length work.old) insts.now top left h l t }
+    requires base_len { length base.words.now ≡ 0 }
+    requires names { Names base.names.now }
+    requires posed { Posed (base.words.now ++ work.old) (length work.old) rules.insts.now room.old.top room.old.left q.head q.context q.ty }
 {
     let sp = work.len();
-    if op == 0 {
-        let r = resolve::resolve(
-            base,
-            work,
-            names,
-            classes,
-            insts,
-            top,
-            left,
-            256,
-            sp,
-            Root::Context(h),
-            l,
-            c,
-            t,
-        );
-        return say::resolved(out, base, work, names, r);
+    match task {
+        Task::Resolve => {
+            let root = Root::Context(q.head);
+            let r = resolve::resolve(
+                base,
+                work,
+                room,
+                rules,
+                errors::DEPTH,
+                sp,
+                root,
+                q.context,
+                q.class,
+                q.ty,
+            );
+            say::resolved(out, base, work, r, room.left)
+        }
+        Task::Overlap => {
+            let r = instances::none_overlaps(base, work, room, rules.insts, sp, q.class, q.ty);
+            say::apart(out, base, work, r, room.left)
+        }
     }
-    let r = instances::none_overlaps(base, work, names, insts, top, left, sp, c, t);
-    say::apart(out, base, work, names, r)
 }
 
 // Answers a case, if it is one.
 fn answer<W: Write>(
     out: &mut W,
-    base: &[u64],
+    base: Base,
     work: &mut [u64],
-    names: &[u64],
-    classes: &[u64],
-    insts: &[u64],
-    op: usize,
-    top: usize,
-    left: usize,
-    h: usize,
-    l: usize,
-    c: usize,
-    t: usize,
+    room: &mut Room,
+    rules: Rules,
+    task: Task,
+    q: Question,
 ) -> io::Result<()>
-    requires base_len { length base.now ≡ 0 }
-    requires names { Names names.now }
+    requires base_len { length base.words.now ≡ 0 }
+    requires names { Names base.names.now }
 {
-    if goals::is_posed(base, work, insts, top, left, h, l, t) {
-        run(
-            out, base, work, names, classes, insts, op, top, left, h, l, c, t,
-        )?;
-        return cases::say::text(out, b"\n");
+    if !goals::is_posed(base, work, rules.insts, *room, q.head, q.context, q.ty) {
+        return writeln!(out, "no case");
     }
-    cases::say::text(out, b"no case\n")
+    run(out, base, work, room, rules, task, q)?;
+    writeln!(out)
 }
 
-// Reads the context and the goal of a case at a place, and answers it; the place behind it.
-fn asked<W: Write>(
-    out: &mut W,
-    file: &[u8],
-    at: usize,
-    base: &[u64],
-    names: &[u64],
-    work: &mut [u64],
-    ids: &[u64],
-    classes: &[u64],
-    insts: &[u64],
-    op: usize,
-    left: usize,
-    k: usize,
-    top: usize,
-) -> io::Result<usize>
-    requires base_len { length base.now ≡ 0 }
-    requires names { Names names.now }
-{
-    let h = input::two(file, at);
-    let i = input::skip(file, at, 2);
-    let g = lists::list(file, i, base, work, ids, k, top);
-    let c = input::two(file, g.at);
-    let j = input::skip(file, g.at, 2);
-    let t = nodes::id(file, j, ids, k);
-    answer(
-        out, base, work, names, classes, insts, op, g.top, left, h, g.word, c, t,
-    )?;
-    Ok(input::skip(file, j, 2))
-}
-
-// Reads the instances of a case at a place and what follows, and answers it; the place behind it.
-fn declared<W: Write>(
-    out: &mut W,
-    file: &[u8],
-    at: usize,
-    base: &[u64],
-    names: &[u64],
-    work: &mut [u64],
-    ids: &[u64],
-    classes: &[u64],
-    insts: &mut [u64],
-    op: usize,
-    left: usize,
-    k: usize,
-    top: usize,
-) -> io::Result<usize>
-    requires base_len { length base.now ≡ 0 }
-    requires names { Names names.now }
-{
-    let m = input::byte(file, at);
-    let i = input::skip(file, at, 1);
-    let n = nodes::least(m, insts.len());
-    let b = lists::instances(file, i, base, work, ids, k, top, insts, n);
-    asked(
-        out,
-        file,
-        b.at,
-        base,
-        names,
-        work,
-        ids,
-        classes,
-        &insts[..n],
-        op,
-        left,
-        k,
-        b.top,
-    )
-}
-
-// Reads the case at a place and answers it; the place behind it.
+// Reads the case that stands next, and answers it.
 fn one<W: Write>(
     out: &mut W,
-    file: &[u8],
-    at: usize,
-    base: &[u64],
-    names: &[u64],
-    work: &mut [u64],
-    ids: &mut [u64],
-    classes: &mut [u64],
-    insts: &mut [u64],
-) -> io::Result<usize>
-    requires base_len { length base.now ≡ 0 }
-    requires names { Names names.now }
-{
-    let op = input::byte(file, at);
-    let i = input::skip(file, at, 1);
-    let left = input::four(file, i);
-    let j = input::skip(file, i, 4);
-    let k = input::two(file, j);
-    let from = input::skip(file, j, 2);
-    let b = nodes::read(file, from, base, work, ids, k);
-    let rows = nodes::least(names.len() / 4, 1024);
-    let next = table::read(file, b.at, classes, rows);
-    declared(
-        out, file, next, base, names, work, ids, classes, insts, op, left, k, b.top,
-    )
-}
-
-// All cases from a place on. The turns count down: a case has at least one byte.
-fn replay_cases<W: Write>(
-    out: &mut W,
-    file: &[u8],
-    from: usize,
-    base: &[u64],
-    names: &[u64],
+    reader: &mut Reader,
+    base: Base,
     work: &mut [u64],
     ids: &mut [u64],
     classes: &mut [u64],
     insts: &mut [u64],
 ) -> io::Result<()>
-    requires base_len { length base.now ≡ 0 }
-    requires names { Names names.now }
+    requires base_len { length base.words.now ≡ 0 }
+    requires names { Names base.names.now }
 {
-    let n = file.len();
-    let mut at = from;
-    let mut turns = n;
-    while turns > 0 && at < n {
-        at = one(out, file, at, base, names, work, ids, classes, insts)?;
-        turns -= 1;
-    }
-    Ok(())
-}
-
-// The cases from a place on, if no two names are equal. No type lies in a closed table.
-fn with_names<W: Write>(
-    out: &mut W,
-    file: &[u8],
-    at: usize,
-    names: &[u64],
-    work: &mut [u64],
-    ids: &mut [u64],
-    classes: &mut [u64],
-    insts: &mut [u64],
-) -> io::Result<()> {
-    let base = [0u64; 0];
-    if rows::are_distinct(names) {
-        replay_cases(out, file, at, &base, names, work, ids, classes, insts)?;
-    }
-    Ok(())
-}
-
-// A whole file: the names, then the cases.
-fn replay<W: Write>(
-    out: &mut W,
-    file: &[u8],
-    names: &mut [u64],
-    work: &mut [u64],
-    ids: &mut [u64],
-    classes: &mut [u64],
-    insts: &mut [u64],
-) -> io::Result<()> {
-    let h = rows::read(file, names);
-    let n = 4 * h.count;
-    with_names(out, file, h.at, &names[..n], work, ids, classes, insts)
+    let task = Task::from(reader.byte());
+    let mut room = Room {
+        top: 0,
+        left: reader.four(),
+    };
+    let ids = nodes::read(reader, work, &mut room, ids);
+    table::read(reader, classes, (base.names.len() / 4).min(1024));
+    let insts = lists::instances(reader, work, &mut room, ids, insts);
+    let q = Question {
+        head: reader.two(),
+        context: lists::list(reader, work, &mut room, ids),
+        class: reader.two(),
+        ty: nodes::id(reader, ids),
+    };
+    answer(
+        out,
+        base,
+        work,
+        &mut room,
+        Rules { classes, insts },
+        task,
+        q,
+    )
 }
 
 // Reads the file and replays it. There are words for some 16,000 steps.
@@ -277,13 +175,22 @@ fn main(rt: HostRuntime) -> io::Result<()> {
     let mut ids = [0u64; 1024];
     let mut classes = [0u64; 2048];
     let mut insts = [0u64; 256];
-    replay(
-        &mut out,
+    cases::replay::all(
         &file[..n],
         &mut names,
-        &mut work,
-        &mut ids,
-        &mut classes,
-        &mut insts,
+        |reader, base|
+            requires base_len { length base.words.now ≡ 0 }
+            requires names { Names base.names.now }
+        {
+            one(
+                &mut out,
+                reader,
+                base,
+                &mut work,
+                &mut ids,
+                &mut classes,
+                &mut insts,
+            )
+        },
     )
 }

@@ -2,86 +2,45 @@
 // that place on, after all rows. What finds no room is left out.
 ghost use Rattle.std.specs.Prelude.{◌<◌};
 
-use cases::input;
+use cases::input::Reader;
 
-// A place in the file, and the first free word of the table.
-#[derive(Clone, Copy)]
-struct Next {
-    at: usize,
-    free: usize,
-}
-
-// Writes a word, if there is room for it; the first free word then.
-fn push(classes: &mut [u64], free: usize, x: usize) -> usize {
-    if free >= classes.len() {
-        return free;
+// Writes a word at a place, if there is room for it.
+fn put(classes: &mut [u64], i: usize, x: usize) {
+    if let Some(word) = classes.get_mut(i) {
+        *word = x as u64;
     }
-    classes[free] = x as u64;
-    free + 1
 }
 
-// Writes the row of a class, if it has a name.
-fn put_row(classes: &mut [u64], rows: usize, c: usize, place: usize, count: usize)
-    requires { c < 65536 }
-{
+// Writes a word at the first free place, if there is room for it.
+fn push(classes: &mut [u64], free: &mut usize, x: usize) {
+    if let Some(word) = classes.get_mut(*free) {
+        *word = x as u64;
+        *free += 1;
+    }
+}
+
+// Reads a class: its name, how many superclasses, their names. It has a row if it has a name.
+fn class(reader: &mut Reader, classes: &mut [u64], rows: usize, free: &mut usize) {
+    let c = reader.two();
+    let n = reader.byte();
     if c < rows {
-        push(classes, 2 * c, place);
-        push(classes, 2 * c + 1, count);
+        put(classes, 2 * c, *free);
+        put(classes, 2 * c + 1, usize::from(n));
+    }
+    for _super in 0..n {
+        push(classes, free, reader.two());
     }
 }
 
-// Writes the n superclasses that stand from a place on; the first free word then.
-fn put_supers(file: &[u8], at: usize, classes: &mut [u64], from: usize, n: usize) -> usize
-    requires { n < 256 }
-{
-    let mut free = from;
-    let mut j: usize = 0;
-    while j < n {
-        let i = input::skip(file, at, 2 * j);
-        let s = input::two(file, i);
-        free = push(classes, free, s);
-        j += 1;
-    }
-    free
-}
-
-// Reads a class: its name, how many superclasses, their names.
-fn class(file: &[u8], at: usize, classes: &mut [u64], rows: usize, free: usize) -> Next {
-    let c = input::two(file, at);
-    let i = input::skip(file, at, 2);
-    let n = input::byte(file, i);
-    let j = input::skip(file, i, 1);
-    put_row(classes, rows, c, free, n);
-    Next {
-        free: put_supers(file, j, classes, free, n),
-        at: input::skip(file, j, 2 * n),
-    }
-}
-
-// Forgets the classes of the case before.
-fn clear(classes: &mut [u64]) {
-    let n = classes.len();
-    let mut i: usize = 0;
-    while i < n {
-        classes[i] = 0;
-        i += 1;
-    }
-}
-
-// Reads the classes of a case, of which there are as many rows as names; the place behind them.
-pub fn read(file: &[u8], at: usize, classes: &mut [u64], rows: usize) -> usize
+// Reads how many classes a case has, and the classes, of which there are as many rows as names. Those of the case before
+// are forgotten.
+pub fn read(reader: &mut Reader, classes: &mut [u64], rows: usize)
     requires { rows < 65536 }
 {
-    clear(classes);
-    let n = input::two(file, at);
-    let mut i = input::skip(file, at, 2);
+    classes.fill(0);
+    let n = reader.two();
     let mut free = 2 * rows;
-    let mut k: usize = 0;
-    while k < n {
-        let x = class(file, i, classes, rows, free);
-        i = x.at;
-        free = x.free;
-        k += 1;
+    for _class in 0..n {
+        class(reader, classes, rows, &mut free);
     }
-    i
 }

@@ -2,102 +2,52 @@
 // a line for each.
 #![tactic(auto)]
 
-ghost use Rattle.std.specs.Prelude.{◌<◌};
-
-use body::Reading;
 use cases::input::fill;
 use errors::Refusal;
+use nodes::Counts;
 use std::io;
 use std::io::{Read, Write};
-
-// A byte as a number.
-fn wide(x: u8) -> usize
-    ensures { result < 256 }
-{
-    x as usize
-}
-
-// The length of a file: four bytes, the lowest first.
-fn length_of(h: [u8; 4]) -> usize {
-    wide(h[0]) + wide(h[1]) * 256 + wide(h[2]) * 65536 + wide(h[3]) * 16777216
-}
-
-// Writes a number after a blank.
-fn number<W: Write>(out: &mut W, n: usize) -> io::Result<()> {
-    write!(out, " {n}")
-}
 
 // The offset of a refusal of a file.
 fn offset(e: Refusal) -> usize {
     match e {
-        Refusal::Format(at) => at,
-        Refusal::Limit(at) => at,
-        Refusal::Reserved(at) => at,
+        Refusal::Format(at) | Refusal::Limit(at) | Refusal::Reserved(at) => at,
         _ => 0,
     }
 }
 
 // Writes the line of an answer: how many names, types, expressions and declarations; or number and offset of a refusal.
-fn say<W: Write>(out: &mut W, r: Reading) -> io::Result<()> {
-    match r {
-        Reading::Good(a, b, c, d) => {
-            out.write_all(b"read")?;
-            number(out, a)?;
-            number(out, b)?;
-            number(out, c)?;
-            number(out, d)?;
-        }
-        Reading::Bad(e) => {
-            out.write_all(b"refused")?;
-            number(out, errors::number(e) as usize)?;
-            number(out, offset(e))?;
-        }
+fn say<W: Write>(out: &mut W, reading: Result<Counts, Refusal>) -> io::Result<()> {
+    match reading {
+        Ok(n) => writeln!(out, "read {} {} {} {}", n.names, n.types, n.exprs, n.decls),
+        Err(e) => writeln!(out, "refused {} {}", errors::number(e), offset(e)),
     }
-    out.write_all(b"\n")
 }
 
-// The length of the next file; more than any file has where the input ends.
-fn next_length<R: Read>(input: &mut R) -> io::Result<usize> {
+// The length of the next file, four bytes, the lowest first; none where the input ends.
+fn next_length<R: Read>(input: &mut R) -> io::Result<Option<usize>> {
     let mut head = [0u8; 4];
-    let h = fill(input, &mut head)?;
-    if h < 4 {
-        return Ok(1000000);
+    if fill(input, &mut head)? < 4 {
+        return Ok(None);
     }
-    Ok(length_of(head))
+    Ok(Some(u32::from_le_bytes(head) as usize))
 }
 
-// Reads a file and says what it is.
-fn answer<W: Write>(
-    out: &mut W,
-    src: &[u8],
-    names: &mut [u64; 4236],
-    index: &mut [u64; 11776],
-) -> io::Result<()> {
-    let r = file::read(src, names, index);
-    say(out, r)
+// The next file, read into the buffer; none where the input ends, or where the buffer has no room for it.
+fn next<'a, R: Read>(input: &mut R, buf: &'a mut [u8]) -> io::Result<Option<&'a [u8]>> {
+    let Some(n) = next_length(input)? else {
+        return Ok(None);
+    };
+    let Some(src) = buf.get_mut(..n) else {
+        return Ok(None);
+    };
+    if fill(input, src)? < n {
+        return Ok(None);
+    }
+    Ok(Some(src))
 }
 
-// One file. Answers whether to go on.
-fn one<R: Read, W: Write>(
-    input: &mut R,
-    out: &mut W,
-    buf: &mut [u8],
-    names: &mut [u64; 4236],
-    index: &mut [u64; 11776],
-) -> io::Result<bool> {
-    let n = next_length(input)?;
-    if buf.len() < n {
-        return Ok(false);
-    }
-    let got = fill(input, &mut buf[..n])?;
-    if got < n {
-        return Ok(false);
-    }
-    answer(out, &buf[..n], names, index)?;
-    Ok(true)
-}
-
-// All files. Nothing says that the input ends, so the loop counts its turns down.
+// All files. Nothing says that the input ends, so the loop has a last turn.
 fn all<R: Read, W: Write>(
     input: &mut R,
     out: &mut W,
@@ -105,9 +55,11 @@ fn all<R: Read, W: Write>(
     names: &mut [u64; 4236],
     index: &mut [u64; 11776],
 ) -> io::Result<()> {
-    let mut turns = u64::MAX;
-    while turns > 0 && one(input, out, buf, names, index)? {
-        turns -= 1;
+    for _ in 0..u64::MAX {
+        let Some(src) = next(input, buf)? else {
+            return Ok(());
+        };
+        say(out, file::read(src, names, index))?;
     }
     Ok(())
 }

@@ -37,170 +37,92 @@ ghost use Rattle.std.specs.Prelude.{◌≡◌, ◌++◌, length};
 ghost use Rattle.names.specs.Names.{Names};
 ghost use Rattle.cases.specs.Tested.{Fits};
 
-use apply::Applied;
-use cases::{input, nodes, ready, rows};
+use ast::{Base, Room};
+use cases::input::Reader;
+use cases::{input, nodes, ready};
+use errors::Refusal;
 use std::io;
 use std::io::Write;
 
-// Unifies or matches two types, with 256 levels, and all words for the stack.
-fn run(
-    base: &[u64],
-    work: &mut [u64],
-    names: &[u64],
-    op: usize,
-    top: usize,
-    left: usize,
-    s: usize,
-    t: usize,
-) -> Applied
-    requires base_len { length base.now ≡ 0 }
-    requires names { Names names.now }
-    requires fits { Fits (base.now ++ work.old) (length work.old) top left s t }
-{
-    let sp = work.len();
-    if op == 0 {
-        return unify::unify(base, work, names, top, left, 256, sp, s, t);
-    }
-    matching::match_ty(base, work, names, top, left, 256, sp, s, t)
+// What a case asks for: a byte that is not 0 is for match.
+#[derive(Clone, Copy)]
+enum Task {
+    Unify,
+    Match,
 }
 
-// Answers a case that was tested.
-fn solve<W: Write>(
-    out: &mut W,
-    base: &[u64],
+impl From<u8> for Task {
+    fn from(byte: u8) -> Task {
+        match byte {
+            0 => Task::Unify,
+            _ => Task::Match,
+        }
+    }
+}
+
+// Unifies or matches two types, with 256 levels, and all words for the stack.
+// That no type lies in a closed table and no two names are equal stands in each contract: a type that says so would be no
+// plainer, since the functions that are called ask it of `base` itself.
+fn run(
+    base: Base,
     work: &mut [u64],
-    names: &[u64],
-    op: usize,
-    top: usize,
-    left: usize,
+    room: &mut Room,
+    task: Task,
     s: usize,
     t: usize,
-) -> io::Result<()>
-    requires base_len { length base.now ≡ 0 }
-    requires names { Names names.now }
-    requires fits { Fits (base.now ++ work.old) (length work.old) top left s t }
+) -> Result<usize, Refusal>
+    requires base_len { length base.words.now ≡ 0 }
+    requires names { Names base.names.now }
+    requires fits { Fits (base.words.now ++ work.old) (length work.old) room.old.top room.old.left s t }
 {
-    let r = run(base, work, names, op, top, left, s, t);
-    say::answer(out, base, work, names, r)?;
-    cases::say::text(out, b"\n")
+    let sp = work.len();
+    match task {
+        Task::Unify => unify::unify(base, work, room, errors::DEPTH, sp, s, t),
+        Task::Match => matching::match_ty(base, work, room, errors::DEPTH, sp, s, t),
+    }
 }
 
 // Answers a case, if it is one.
 fn answer<W: Write>(
     out: &mut W,
-    base: &[u64],
+    base: Base,
     work: &mut [u64],
-    names: &[u64],
-    op: usize,
-    top: usize,
-    left: usize,
+    room: &mut Room,
+    task: Task,
     s: usize,
     t: usize,
 ) -> io::Result<()>
-    requires base_len { length base.now ≡ 0 }
-    requires names { Names names.now }
+    requires base_len { length base.words.now ≡ 0 }
+    requires names { Names base.names.now }
 {
-    if ready::is_ready(base, work, top, left, s, t) {
-        return solve(out, base, work, names, op, top, left, s, t);
+    if !ready::is_ready(base, work, *room, s, t) {
+        return writeln!(out, "no case");
     }
-    cases::say::text(out, b"no case\n")
+    let r = run(base, work, room, task, s, t);
+    say::answer(out, base, work, r, room.left)?;
+    writeln!(out)
 }
 
-// Reads the nodes and the two types of a case at a place, and answers it; the place behind it.
-fn typed<W: Write>(
-    out: &mut W,
-    file: &[u8],
-    at: usize,
-    base: &[u64],
-    names: &[u64],
-    work: &mut [u64],
-    ids: &mut [u64],
-    op: usize,
-    left: usize,
-) -> io::Result<usize>
-    requires base_len { length base.now ≡ 0 }
-    requires names { Names names.now }
-{
-    let k = input::two(file, at);
-    let i = input::skip(file, at, 2);
-    let b = nodes::read(file, i, base, work, ids, k);
-    let s = nodes::id(file, b.at, ids, k);
-    let j = input::skip(file, b.at, 2);
-    let t = nodes::id(file, j, ids, k);
-    answer(out, base, work, names, op, b.top, left, s, t)?;
-    Ok(input::skip(file, j, 2))
-}
-
-// Reads the case at a place and answers it; the place behind it.
+// Reads the case that stands next, and answers it.
 fn one<W: Write>(
     out: &mut W,
-    file: &[u8],
-    at: usize,
-    base: &[u64],
-    names: &[u64],
-    work: &mut [u64],
-    ids: &mut [u64],
-) -> io::Result<usize>
-    requires base_len { length base.now ≡ 0 }
-    requires names { Names names.now }
-{
-    let op = input::byte(file, at);
-    let i = input::skip(file, at, 1);
-    let left = input::four(file, i);
-    let j = input::skip(file, i, 4);
-    typed(out, file, j, base, names, work, ids, op, left)
-}
-
-// All cases from a place on. The turns count down: a case has at least one byte.
-fn cases<W: Write>(
-    out: &mut W,
-    file: &[u8],
-    from: usize,
-    base: &[u64],
-    names: &[u64],
+    reader: &mut Reader,
+    base: Base,
     work: &mut [u64],
     ids: &mut [u64],
 ) -> io::Result<()>
-    requires base_len { length base.now ≡ 0 }
-    requires names { Names names.now }
+    requires base_len { length base.words.now ≡ 0 }
+    requires names { Names base.names.now }
 {
-    let n = file.len();
-    let mut at = from;
-    let mut turns = n;
-    while turns > 0 && at < n {
-        at = one(out, file, at, base, names, work, ids)?;
-        turns -= 1;
-    }
-    Ok(())
-}
-
-// The cases from a place on, if no two names are equal. No type lies in a closed table.
-fn with_names<W: Write>(
-    out: &mut W,
-    file: &[u8],
-    at: usize,
-    names: &[u64],
-    work: &mut [u64],
-    ids: &mut [u64],
-) -> io::Result<()> {
-    let base = [0u64; 0];
-    if rows::are_distinct(names) {
-        cases(out, file, at, &base, names, work, ids)?;
-    }
-    Ok(())
-}
-
-// A whole file: the names, then the cases.
-fn replay<W: Write>(
-    out: &mut W,
-    file: &[u8],
-    names: &mut [u64],
-    work: &mut [u64],
-    ids: &mut [u64],
-) -> io::Result<()> {
-    let h = rows::read(file, names);
-    let n = 4 * h.count;
-    with_names(out, file, h.at, &names[..n], work, ids)
+    let task = Task::from(reader.byte());
+    let mut room = Room {
+        top: 0,
+        left: reader.four(),
+    };
+    let ids = nodes::read(reader, work, &mut room, ids);
+    let s = nodes::id(reader, ids);
+    let t = nodes::id(reader, ids);
+    answer(out, base, work, &mut room, task, s, t)
 }
 
 // Reads the file and replays it. There are words for 65,536 steps, which `unify` takes at 256 levels of `List`.
@@ -211,5 +133,12 @@ fn main(rt: HostRuntime) -> io::Result<()> {
     let mut names = [0u64; 1024];
     let mut work = [0u64; 540672];
     let mut ids = [0u64; 1024];
-    replay(&mut out, &file[..n], &mut names, &mut work, &mut ids)
+    cases::replay::all(
+        &file[..n],
+        &mut names,
+        |reader, base|
+            requires base_len { length base.words.now ≡ 0 }
+            requires names { Names base.names.now }
+        { one(&mut out, reader, base, &mut work, &mut ids) },
+    )
 }

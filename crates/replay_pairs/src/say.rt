@@ -1,73 +1,37 @@
 // Writing an answer's line.
-use apply::Applied;
+use ast::Base;
 use cases::say;
+use errors::Refusal;
 use std::io;
 use std::io::Write;
 
-// Writes the variable and the type of the pair with which the last j pairs of the words begin.
-fn pair<W: Write>(
-    out: &mut W,
-    base: &[u64],
-    work: &[u64],
-    names: &[u64],
-    j: usize,
-) -> io::Result<()> {
+// Writes the variable and the type of each of the last k pairs of the words.
+fn pairs<W: Write>(out: &mut W, base: Base, work: &[u64], k: usize) -> io::Result<()> {
     let n = work.len();
-    if j == 0 {
-        return Ok(());
-    }
-    if j > n / 2 {
-        return Ok(());
-    }
-    let at = n - 2 * j;
-    let x = ast::index(base, work, at);
-    let t = ast::index(base, work, at + 1);
-    say::text(out, b" ")?;
-    say::variable(out, names, x)?;
-    say::text(out, b"=")?;
-    say::whole(out, base, work, names, t)
-}
-
-// Writes the last k pairs of the words.
-fn pairs<W: Write>(
-    out: &mut W,
-    base: &[u64],
-    work: &[u64],
-    names: &[u64],
-    k: usize,
-) -> io::Result<()> {
-    let mut j = k;
-    while j > 0 {
-        pair(out, base, work, names, j)?;
-        j -= 1;
+    let from = n - 2 * k.min(n / 2);
+    let (pairs, _) = work[from..].as_chunks::<2>();
+    for [x, t] in pairs {
+        write!(out, " ")?;
+        say::variable(out, base.names, *x as usize)?;
+        write!(out, "=")?;
+        say::whole(out, base, work, *t as usize)?;
     }
     Ok(())
 }
 
-// Writes a substitution after the steps left.
-fn done<W: Write>(
-    out: &mut W,
-    base: &[u64],
-    work: &[u64],
-    names: &[u64],
-    k: usize,
-    left: usize,
-) -> io::Result<()> {
-    say::text(out, b"0")?;
-    say::count(out, left)?;
-    pairs(out, base, work, names, k)
-}
-
-// Writes an answer.
+// Writes an answer: a substitution of so many pairs after the steps left, or a refusal.
 pub fn answer<W: Write>(
     out: &mut W,
-    base: &[u64],
+    base: Base,
     work: &[u64],
-    names: &[u64],
-    r: Applied,
+    r: Result<usize, Refusal>,
+    left: usize,
 ) -> io::Result<()> {
     match r {
-        Applied::Done(k, _, left) => done(out, base, work, names, k, left),
-        Applied::Refused(e, _, left) => say::refusal(out, base, work, names, e, left),
+        Ok(k) => {
+            write!(out, "0 {left}")?;
+            pairs(out, base, work, k)
+        }
+        Err(e) => say::refusal(out, base, work, e, left),
     }
 }

@@ -17,7 +17,7 @@ use Rattle.ast.specs.declared.Cell.{Cell}
 use Rattle.ast.specs.declared.Cell.TheVariants.{Nil, Cons}
 use Rattle.ast.proofs.Laws.{low_var, low_node, kept_node}
 use Rattle.vars.specs.Vars.{vars_of_word}
-use Rattle.subst.specs.Made.{Single}
+use Rattle.pairs.specs.Made.{Single}
 use Rattle.subst.specs.Preds.{preds_of_word}
 use Rattle.subst.specs.Schemes.{scheme_of_word, ReadyScheme}
 use Rattle.free.specs.Free.{add_but, free_type, Wants}

@@ -4,8 +4,8 @@ ghost use Rattle.names.specs.Names.{Names};
 ghost use Rattle.cases.specs.Posed.{Posed};
 ghost use Rattle.cases.specs.Typed.{TypedRows};
 
-use cases::say;
-use reduce::Reduced;
+use ast::{Base, Room};
+use resolve::Rules;
 use std::io;
 use std::io::Write;
 use supers::Root;
@@ -32,113 +32,65 @@ const HEAD: usize = 9223372036854775810;
 const GIVEN: usize = 9223372036854775813;
 
 // Writes the nodes.
-fn build(base: &[u64], work: &mut [u64])
-    requires base_len { length base.now ≡ 0 }
+fn build(base: Base, work: &mut [u64])
+    requires base_len { length base.words.now ≡ 0 }
     requires in_bounds { 24 ≤ length work.old }
 {
     subst::push_pred(base, work, 0, EQ, names::NULLARY + INT, ast::NIL);
     subst::push_pred(base, work, 1, EQ, A, ast::NIL);
-    ast::push(base, work, 2, 1, LIST, CONTEXT);
+    ast::push(base, work, 2, ast::CON, LIST, CONTEXT);
     subst::push_pred(base, work, 3, EQ, HEAD, CONTEXT);
-    ast::push(base, work, 4, 1, LIST, names::NODE);
+    ast::push(base, work, 4, ast::CON, LIST, names::NODE);
     subst::push_pred(base, work, 5, ORD, A, ast::NIL);
-}
-
-// Writes what became of three rows.
-fn rows<W: Write>(
-    out: &mut W,
-    base: &[u64],
-    work: &[u64],
-    names: &[u64],
-    binders: &[u64],
-) -> io::Result<()> {
-    if binders.len() < 9 {
-        return Ok(());
-    }
-    cases::binders::row(out, base, work, names, binders, 0)?;
-    cases::binders::row(out, base, work, names, binders, 1)?;
-    cases::binders::row(out, base, work, names, binders, 2)
-}
-
-// Writes what came of a reduction.
-fn answer<W: Write>(
-    out: &mut W,
-    base: &[u64],
-    work: &[u64],
-    names: &[u64],
-    binders: &[u64],
-    r: Reduced,
-) -> io::Result<()> {
-    match r {
-        Reduced::Done(_, left) => {
-            say::text(out, b"0")?;
-            say::count(out, left)?;
-            rows(out, base, work, names, binders)?;
-        }
-        Reduced::Refused(e, _, left) => say::refusal(out, base, work, names, e, left)?,
-    }
-    say::text(out, b"\n")
 }
 
 // Reduces three rows under the context l of a head of class h, and writes what became of them.
 fn run<W: Write>(
     out: &mut W,
-    base: &[u64],
+    base: Base,
     work: &mut [u64],
-    names: &[u64],
-    classes: &[u64],
-    insts: &[u64],
+    mut room: Room,
+    rules: Rules,
     binders: &mut [u64],
-    top: usize,
-    left: usize,
     h: usize,
     l: usize,
 ) -> io::Result<()>
-    requires base_len { length base.now ≡ 0 }
-    requires names { Names names.now }
-    requires posed { Posed (base.now ++ work.old) (length work.old) insts.now top left h l l }
-    requires typed_rows { TypedRows top binders.old 3 }
+    requires base_len { length base.words.now ≡ 0 }
+    requires names { Names base.names.now }
+    requires posed { Posed (base.words.now ++ work.old) (length work.old) rules.insts.now room.top room.left h l l }
+    requires typed_rows { TypedRows room.top binders.old 3 }
     requires in_bounds { 9 ≤ length binders.old }
 {
     let sp = work.len();
-    let r = reduce::reduce(
-        base,
-        work,
-        names,
-        classes,
-        insts,
-        binders,
-        top,
-        left,
-        sp,
-        Root::Context(h),
-        l,
-        3,
-    );
-    answer(out, base, work, names, binders, r)
+    let root = Root::Context(h);
+    match reduce::reduce(base, work, &mut room, rules, binders, sp, root, l, 3) {
+        Ok(()) => {
+            write!(out, "0 {}", room.left)?;
+            cases::binders::all(out, base, work, binders)?;
+        }
+        Err(e) => cases::say::refusal(out, base, work, e, room.left)?,
+    }
+    writeln!(out)
 }
 
 // The same, if the words are what it asks.
 fn tested<W: Write>(
     out: &mut W,
-    base: &[u64],
+    base: Base,
     work: &mut [u64],
-    names: &[u64],
-    classes: &[u64],
-    insts: &[u64],
+    rules: Rules,
     binders: &mut [u64],
     left: usize,
     l: usize,
 ) -> io::Result<()>
-    requires base_len { length base.now ≡ 0 }
+    requires base_len { length base.words.now ≡ 0 }
     requires in_bounds { 9 ≤ length binders.old }
 {
-    if cases::rows::are_distinct(names) {
-        if cases::goals::is_posed(base, work, insts, TOP, left, ORD, l, l) {
+    let room = Room { top: TOP, left };
+    if cases::rows::are_distinct(base.names) {
+        if cases::goals::is_posed(base, work, rules.insts, room, ORD, l, l) {
             if cases::binders::are_typed(binders, TOP, 3) {
-                run(
-                    out, base, work, names, classes, insts, binders, TOP, left, ORD, l,
-                )?;
+                run(out, base, work, room, rules, binders, ORD, l)?;
             }
         }
     }
@@ -147,7 +99,6 @@ fn tested<W: Write>(
 
 // One line. The names are Eq, Ord, Int, List and a; the class table has a row for each, and then the superclass of Ord.
 fn case<W: Write>(out: &mut W, left: usize, l: usize) -> io::Result<()> {
-    let base = [0u64; 0];
     let mut work = [0u64; 512];
     let names = [
         5003780660985331712,
@@ -174,18 +125,16 @@ fn case<W: Write>(out: &mut W, left: usize, l: usize) -> io::Result<()> {
     let classes = [10, 0, 10, 1, 0, 0, 0, 0, 0, 0, 0u64];
     let insts = [9223372036854775808, 9223372036854775811u64];
     let mut binders = [0, 0, 9223372036854775812, 1, 0, 4, 2, 1, 4u64];
-    build(&base, &mut work);
-    tested(
-        out,
-        &base,
-        &mut work,
-        &names,
-        &classes,
-        &insts,
-        &mut binders,
-        left,
-        l,
-    )
+    let base = Base {
+        words: &[],
+        names: &names,
+    };
+    let rules = Rules {
+        classes: &classes,
+        insts: &insts,
+    };
+    build(base, &mut work);
+    tested(out, base, &mut work, rules, &mut binders, left, l)
 }
 
 // With the given, with one step too few, and without the given.

@@ -1,34 +1,28 @@
 // Writing schemes.
-use ast::Cell;
+use ast::{Base, Cell};
 use cases::say;
+use errors::Refusal;
 use std::io;
 use std::io::Write;
-use subst::AppliedQual;
+use subst::{Qual, Scheme};
 
 // Writes a predicate.
 fn predicate<W: Write>(
     out: &mut W,
-    base: &[u64],
+    base: Base,
     work: &[u64],
-    names: &[u64],
     c: usize,
     t: usize,
 ) -> io::Result<()> {
-    say::text(out, b" (")?;
-    say::name(out, names, c)?;
-    say::text(out, b" ")?;
-    say::whole(out, base, work, names, t)?;
-    say::text(out, b")")
+    write!(out, " (")?;
+    say::name(out, base.names, c)?;
+    write!(out, " ")?;
+    say::whole(out, base, work, t)?;
+    write!(out, ")")
 }
 
 // Writes the first predicate of a list; the rest of it.
-fn first<W: Write>(
-    out: &mut W,
-    base: &[u64],
-    work: &[u64],
-    names: &[u64],
-    l: usize,
-) -> io::Result<usize> {
+fn first<W: Write>(out: &mut W, base: Base, work: &[u64], l: usize) -> io::Result<usize> {
     if l < names::NODE {
         return Ok(ast::NIL);
     }
@@ -38,54 +32,37 @@ fn first<W: Write>(
         let Cell::Cons(a, b) = c else {
             return Ok(ast::NIL);
         };
-        predicate(out, base, work, names, k, a)?;
+        predicate(out, base, work, k, a)?;
         return Ok(b);
     }
     Ok(ast::NIL)
 }
 
 // Writes a scheme: its variables, its two predicates and its type.
-fn scheme<W: Write>(
-    out: &mut W,
-    base: &[u64],
-    work: &[u64],
-    names: &[u64],
-    vs: usize,
-    ps: usize,
-    t: usize,
-) -> io::Result<()> {
-    say::text(out, b" forall")?;
-    say::all(out, base, work, names, vs)?;
-    say::text(out, b".")?;
-    let l = first(out, base, work, names, ps)?;
-    first(out, base, work, names, l)?;
-    say::text(out, b" => ")?;
-    say::whole(out, base, work, names, t)
+fn scheme<W: Write>(out: &mut W, base: Base, work: &[u64], scheme: Scheme) -> io::Result<()> {
+    write!(out, " forall")?;
+    say::all(out, base, work, scheme.vars)?;
+    write!(out, ".")?;
+    let l = first(out, base, work, scheme.preds)?;
+    first(out, base, work, l)?;
+    write!(out, " => ")?;
+    say::whole(out, base, work, scheme.ty)
 }
 
-// Writes what came of a scheme.
+// Writes what came of a scheme with these variables: the steps left and the scheme, or a refusal.
 pub fn answer<W: Write>(
     out: &mut W,
-    base: &[u64],
+    base: Base,
     work: &[u64],
-    names: &[u64],
-    vs: usize,
-    r: AppliedQual,
+    vars: usize,
+    r: Result<Qual, Refusal>,
+    left: usize,
 ) -> io::Result<()> {
     match r {
-        AppliedQual::Done(ps, t, _, left) => {
-            say::text(out, b"0")?;
-            say::count(out, left)?;
-            scheme(out, base, work, names, vs, ps, t)
+        Ok(Qual { preds, ty }) => {
+            write!(out, "0 {left}")?;
+            scheme(out, base, work, Scheme { vars, preds, ty })
         }
-        AppliedQual::Refused(e, _, left) => say::refusal(out, base, work, names, e, left),
+        Err(e) => say::refusal(out, base, work, e, left),
     }
-}
-
-// Writes whether a scheme is closed.
-pub fn truth<W: Write>(out: &mut W, closed: bool) -> io::Result<()> {
-    if closed {
-        return say::text(out, b"closed");
-    }
-    say::text(out, b"not closed")
 }

@@ -5,11 +5,30 @@ ghost use Rattle.ast.specs.Table.{Node};
 ghost use Rattle.replay_schemes.specs.Few.{FewIn, FewOf, Schemed};
 
 use crate::say;
-use ast::{Cell, Shape};
-use free::Vars;
+use ast::{Base, Cell, Room, Shape};
+use errors::Refusal;
+use pairs::Subst;
 use std::io;
 use std::io::Write;
-use subst::{AppliedQual, Subst};
+use subst::{Qual, Scheme};
+
+// A part of a scheme.
+#[derive(Clone, Copy)]
+enum Part {
+    Type,
+    Preds,
+    Qual,
+    Whole,
+}
+
+// What is done with a scheme: its free variables, or those of a part, are written, or whether it is closed, or what it is
+// after a variable has become Int.
+#[derive(Clone, Copy)]
+enum Task {
+    Free(Part),
+    IsClosed,
+    Fill(usize),
+}
 
 // The names, by their numbers.
 const EQ: usize = 0;
@@ -39,22 +58,22 @@ const SOME: usize = 9223372036854775812;
 const ALL: usize = 9223372036854775813;
 
 // Writes the nodes.
-fn build(base: &[u64], work: &mut [u64])
-    requires base_len { length base.now ≡ 0 }
+fn build(base: Base, work: &mut [u64])
+    requires base_len { length base.words.now ≡ 0 }
     requires in_bounds { 24 ≤ length work.old }
 {
     subst::push_pred(base, work, 0, EQ, B, ast::NIL);
-    ast::push(base, work, 1, 3, A, names::NODE);
-    ast::push(base, work, 2, 1, PAIR, ARGS);
+    ast::push(base, work, 1, ast::CONS, A, names::NODE);
+    ast::push(base, work, 2, ast::CON, PAIR, ARGS);
     subst::push_pred(base, work, 3, EQ, C, names::NODE);
-    ast::push(base, work, 4, 3, A, ast::NIL);
-    ast::push(base, work, 5, 3, C, ARGS);
+    ast::push(base, work, 4, ast::CONS, A, ast::NIL);
+    ast::push(base, work, 5, ast::CONS, C, ARGS);
 }
 
 // Whether a list has at most so many types, all of them variables.
-fn is_few(base: &[u64], work: &[u64], top: usize, l: usize, most: usize) -> bool
-    requires { Node (base.now ++ work.now) top l }
-    ensures { result ≡ true → FewIn (base.now ++ work.now) l most }
+fn is_few(base: Base, work: &[u64], top: usize, l: usize, most: usize) -> bool
+    requires { Node (base.words.now ++ work.now) top l }
+    ensures { result ≡ true → FewIn (base.entry.words.now ++ work.now) l most }
 {
     let c = ast::cell_at(base, work, l);
     match c {
@@ -72,9 +91,9 @@ fn is_few(base: &[u64], work: &[u64], top: usize, l: usize, most: usize) -> bool
 }
 
 // Whether a type is a constructor with at most so many variables.
-fn has_few(base: &[u64], work: &[u64], top: usize, t: usize, most: usize) -> bool
-    requires { Node (base.now ++ work.now) top t }
-    ensures { result ≡ true → FewOf (base.now ++ work.now) t most }
+fn has_few(base: Base, work: &[u64], top: usize, t: usize, most: usize) -> bool
+    requires { Node (base.words.now ++ work.now) top t }
+    ensures { result ≡ true → FewOf (base.entry.words.now ++ work.now) t most }
 {
     let s = ast::shape_at(base, work, t);
     let Shape::Con(_, l) = s else {
@@ -84,132 +103,121 @@ fn has_few(base: &[u64], work: &[u64], top: usize, t: usize, most: usize) -> boo
 }
 
 // Whether the words are a scheme, with room for the steps and 16 words more.
-fn is_scheme(
-    base: &[u64],
-    work: &[u64],
-    top: usize,
-    left: usize,
-    vs: usize,
-    ps: usize,
-    t: usize,
-) -> bool
-    requires { left ≤ 1000 }
-    ensures { result ≡ true → Schemed (base.now ++ work.now) (length work.now) top left vs ps t }
+fn is_scheme(base: Base, work: &[u64], room: Room, scheme: Scheme) -> bool
+    requires { room.left ≤ 1000 }
+    ensures { result ≡ true → Schemed (base.entry.words.now ++ work.now) (length work.now) room.top room.left scheme.vars scheme.preds scheme.ty }
 {
-    if cases::ready::is_ready(base, work, top, left + 2, ps, t) {
-        if vs >= names::NODE + top {
+    let more = Room {
+        top: room.top,
+        left: room.left + 2,
+    };
+    if cases::ready::is_ready(base, work, more, scheme.preds, scheme.ty) {
+        if scheme.vars >= names::NODE + room.top {
             return false;
         }
-        if is_few(base, work, top, ps, 2) {
-            return has_few(base, work, top, t, 2);
+        if is_few(base, work, room.top, scheme.preds, 2) {
+            return has_few(base, work, room.top, scheme.ty, 2);
         }
     }
     false
 }
 
-// The free variables of the type, of the predicates, of both, or of the scheme.
-fn collected(
-    base: &[u64],
-    work: &mut [u64],
-    names: &[u64],
-    op: usize,
-    top: usize,
-    left: usize,
-    vs: usize,
-    ps: usize,
-    t: usize,
-) -> Vars
-    requires base_len { length base.now ≡ 0 }
-    requires names { Names names.now }
-    requires schemed { Schemed (base.now ++ work.old) (length work.old) top left vs ps t }
+// The free variables of a part of a scheme.
+// That no type lies in a closed table and no two names are equal stands in each contract: a type that says so would be no
+// plainer, since the functions that are called ask it of `base` itself.
+fn collected(base: Base, work: &mut [u64], room: &mut Room, part: Part, scheme: Scheme) -> usize
+    requires base_len { length base.words.now ≡ 0 }
+    requires names { Names base.names.now }
+    requires schemed { Schemed (base.words.now ++ work.old) (length work.old) room.old.top room.old.left scheme.vars scheme.preds scheme.ty }
 {
-    match op {
-        0 => free::ftv_type(base, work, names, top, ast::NIL, t),
-        1 => free::ftv_preds(base, work, names, top, ast::NIL, ps),
-        2 => free::ftv_qual(base, work, names, top, ps, t),
-        _ => free::ftv_scheme(base, work, names, top, vs, ps, t),
+    match part {
+        Part::Type => free::ftv_type(base, work, room, ast::NIL, scheme.ty),
+        Part::Preds => free::ftv_preds(base, work, room, ast::NIL, scheme.preds),
+        Part::Qual => free::ftv_qual(base, work, room, scheme.preds, scheme.ty),
+        Part::Whole => free::ftv_scheme(base, work, room, scheme),
     }
 }
 
 // The scheme after the variable v has become Int.
 fn filled(
-    base: &[u64],
+    base: Base,
     work: &mut [u64],
-    names: &[u64],
+    room: &mut Room,
     v: usize,
-    top: usize,
-    left: usize,
-    vs: usize,
-    ps: usize,
-    t: usize,
-) -> AppliedQual
-    requires base_len { length base.now ≡ 0 }
-    requires names { Names names.now }
-    requires schemed { Schemed (base.now ++ work.old) (length work.old) top left vs ps t }
+    scheme: Scheme,
+) -> Result<Qual, Refusal>
+    requires base_len { length base.words.now ≡ 0 }
+    requires names { Names base.names.now }
+    requires schemed { Schemed (base.words.now ++ work.old) (length work.old) room.old.top room.old.left scheme.vars scheme.preds scheme.ty }
 {
     let sp = work.len();
     let s = Subst::singleton(base, work, sp, v, names::NULLARY + INT);
-    subst::apply_scheme(base, work, names, top, left, s.at, s.k, vs, ps, t)
+    subst::apply_scheme(base, work, room, s, scheme)
 }
 
-// Does what the number op says, and writes what came of it.
+// Does a task with a scheme, and writes what came of it.
 fn run<W: Write>(
     out: &mut W,
-    base: &[u64],
+    base: Base,
     work: &mut [u64],
-    names: &[u64],
-    op: usize,
-    v: usize,
-    top: usize,
-    left: usize,
-    vs: usize,
-    ps: usize,
-    t: usize,
+    mut room: Room,
+    task: Task,
+    scheme: Scheme,
 ) -> io::Result<()>
-    requires base_len { length base.now ≡ 0 }
-    requires names { Names names.now }
-    requires schemed { Schemed (base.now ++ work.old) (length work.old) top left vs ps t }
+    requires base_len { length base.words.now ≡ 0 }
+    requires names { Names base.names.now }
+    requires schemed { Schemed (base.words.now ++ work.old) (length work.old) room.top room.left scheme.vars scheme.preds scheme.ty }
 {
-    if op == 5 {
-        let r = filled(base, work, names, v, top, left, vs, ps, t);
-        return say::answer(out, base, work, names, vs, r);
+    match task {
+        Task::Free(part) => {
+            let l = collected(base, work, &mut room, part, scheme);
+            write!(out, "free")?;
+            cases::say::all(out, base, work, l)
+        }
+        Task::IsClosed => {
+            if subst::is_closed(base, work, room.top, scheme) {
+                return write!(out, "closed");
+            }
+            write!(out, "not closed")
+        }
+        Task::Fill(v) => {
+            let r = filled(base, work, &mut room, v, scheme);
+            say::answer(out, base, work, scheme.vars, r, room.left)
+        }
     }
-    if op == 4 {
-        return say::truth(out, subst::is_closed(base, work, names, top, vs, ps, t));
-    }
-    let r = collected(base, work, names, op, top, left, vs, ps, t);
-    cases::say::text(out, b"free")?;
-    cases::say::all(out, base, work, names, r.list)
 }
 
 // The same, if the words are what it asks.
 fn tested<W: Write>(
     out: &mut W,
-    base: &[u64],
+    base: Base,
     work: &mut [u64],
-    names: &[u64],
-    op: usize,
-    v: usize,
     left: usize,
-    vs: usize,
+    task: Task,
+    vars: usize,
 ) -> io::Result<()>
-    requires base_len { length base.now ≡ 0 }
+    requires base_len { length base.words.now ≡ 0 }
     requires left_bound { left ≤ 1000 }
 {
-    if cases::rows::are_distinct(names) {
-        if is_scheme(base, work, TOP, left, vs, PREDS, TYPE) {
-            run(out, base, work, names, op, v, TOP, left, vs, PREDS, TYPE)?;
-            cases::say::text(out, b"\n")?;
+    let room = Room { top: TOP, left };
+    let scheme = Scheme {
+        vars,
+        preds: PREDS,
+        ty: TYPE,
+    };
+    if cases::rows::are_distinct(base.names) {
+        if is_scheme(base, work, room, scheme) {
+            run(out, base, work, room, task, scheme)?;
+            writeln!(out)?;
         }
     }
     Ok(())
 }
 
 // One line. The names are Eq, Int, Pair, a, b and c.
-fn case<W: Write>(out: &mut W, op: usize, v: usize, left: usize, vs: usize) -> io::Result<()>
+fn case<W: Write>(out: &mut W, task: Task, left: usize, vars: usize) -> io::Result<()>
     requires { left ≤ 1000 }
 {
-    let base = [0u64; 0];
     let mut work = [0u64; 128];
     let names = [
         5003780660985331712,
@@ -237,22 +245,26 @@ fn case<W: Write>(out: &mut W, op: usize, v: usize, left: usize, vs: usize) -> i
         0,
         0u64,
     ];
-    build(&base, &mut work);
-    tested(out, &base, &mut work, &names, op, v, left, vs)
+    let base = Base {
+        words: &[],
+        names: &names,
+    };
+    build(base, &mut work);
+    tested(out, base, &mut work, left, task, vars)
 }
 
 // The free variables of type, predicates, both, the scheme, and the scheme that binds all; whether the two schemes are closed;
 // Int for the free b, for the bound a, and for b with one step too few; and for b in the closed scheme without a step.
 pub fn lines<W: Write>(out: &mut W) -> io::Result<()> {
-    case(out, 0, B, 8, SOME)?;
-    case(out, 1, B, 8, SOME)?;
-    case(out, 2, B, 8, SOME)?;
-    case(out, 3, B, 8, SOME)?;
-    case(out, 3, B, 8, ALL)?;
-    case(out, 4, B, 8, SOME)?;
-    case(out, 4, B, 8, ALL)?;
-    case(out, 5, B, 8, SOME)?;
-    case(out, 5, A, 8, SOME)?;
-    case(out, 5, B, 4, SOME)?;
-    case(out, 5, B, 0, ALL)
+    case(out, Task::Free(Part::Type), 8, SOME)?;
+    case(out, Task::Free(Part::Preds), 8, SOME)?;
+    case(out, Task::Free(Part::Qual), 8, SOME)?;
+    case(out, Task::Free(Part::Whole), 8, SOME)?;
+    case(out, Task::Free(Part::Whole), 8, ALL)?;
+    case(out, Task::IsClosed, 8, SOME)?;
+    case(out, Task::IsClosed, 8, ALL)?;
+    case(out, Task::Fill(B), 8, SOME)?;
+    case(out, Task::Fill(A), 8, SOME)?;
+    case(out, Task::Fill(B), 4, SOME)?;
+    case(out, Task::Fill(B), 0, ALL)
 }

@@ -19,27 +19,27 @@ use Rattle.errors.specs.Refusals.{Refuses}
 use Rattle.pairs.specs.Pairs.{sub_at, Stands}
 use Rattle.pairs.proofs.Frames.{stands_then, stands_up, sub_stands, sub-later}
 use Rattle.apply.specs.Region.{Ready, Gives}
-use Rattle.apply.specs.declared.Applied.{Applied}
-use Rattle.apply.specs.declared.Applied.TheVariants.{Done as A-Done, Refused as A-Refused}
+use Rattle.apply.specs.Applied.{Applied}
+use Rattle.apply.specs.Applied.{Done as A-Done, Refused as A-Refused}
 use Rattle.apply.proofs.Hand.{Then, then_done, refuse_on, refuse_same, refuse_here, gave, failed}
 use Rattle.compose.specs.Answers.{GrownU}
 use Rattle.subst.specs.Preds.{preds_of_word}
 use Rattle.instances.specs.Accepted.{Instances, Heads, Openable, Opened}
 use Rattle.instances.specs.Picks.{ReadyPick, PickedAt, GivesPick}
-use Rattle.instances.specs.declared.Picked.{Picked}
-use Rattle.instances.specs.declared.Picked.TheVariants.{At, Nothing, Refused as P-Refused}
+use Rattle.instances.specs.Picked.{Picked}
+use Rattle.instances.specs.Picked.{At, Nothing, Refused as P-Refused}
 use Rattle.instances.proofs.Held.{parts, stored_kept, instances_kept, heads_kept, heads_open}
 use Rattle.instances.proofs.Plain.{plains, some_instances}
 use Rattle.cores.specs.Terms.{core}
 use Rattle.supers.specs.Givens.{givens_of}
 use Rattle.supers.specs.Search.{ReadySearch, Finds, FindsNone, FoundAs, GivesFound}
 use Rattle.supers.specs.declared.Root.{Root}
-use Rattle.supers.specs.declared.Searched.{Searched}
-use Rattle.supers.specs.declared.Searched.TheVariants.{Found, Nothing as S-Nothing, Refused as S-Refused}
+use Rattle.supers.specs.Searched.{Searched}
+use Rattle.supers.specs.Searched.{Found, Nothing as S-Nothing, Refused as S-Refused}
 use Rattle.resolve.specs.Ways.{Way, at_hand, by, way_by, or_way, way_to}
 use Rattle.resolve.specs.Resolves.{Declared, ReadyResolve, WayAs, GivesWay}
-use Rattle.resolve.specs.declared.Choice.{Choice}
-use Rattle.resolve.specs.declared.Choice.TheVariants.{Given, By, Refused}
+use Rattle.resolve.specs.Choice.{Choice}
+use Rattle.resolve.specs.Choice.{Given, By, Refused}
 
 -- ## The way by an instance
 

@@ -19,8 +19,8 @@ use Rattle.errors.specs.declared.Refusal.{Refusal}
 use Rattle.pairs.specs.Pairs.{sub_at}
 use Rattle.pairs.proofs.Frames.{stands_refl, stands_then, stands_up}
 use Rattle.apply.specs.Region.{Ready, Gives}
-use Rattle.apply.specs.declared.Applied.{Applied}
-use Rattle.apply.specs.declared.Applied.TheVariants.{Done as A-Done, Refused as A-Refused}
+use Rattle.apply.specs.Applied.{Applied}
+use Rattle.apply.specs.Applied.{Done as A-Done, Refused as A-Refused}
 use Rattle.apply.proofs.Hand.{Then, then_done, refuse_on, gave, failed}
 use Rattle.apply.proofs.Ways.{Room}
 use Rattle.instances.specs.Accepted.{Openable, Opened, Stored}
@@ -31,7 +31,7 @@ use Rattle.cores.proofs.TermLaws.{kept_cores, cores_nil, cores_cons}
 use Rattle.cores.proofs.NewTerm.{four_stands, push_record, push_applied}
 use Rattle.resolve.specs.Ways.{dictionary}
 use Rattle.resolve.specs.Resolves.{ReadyBuild, GivesCore, Wraps}
-use Rattle.resolve.specs.declared.Resolved.TheVariants.{Done, Refused}
+use Rattle.resolve.specs.Resolved.{Done, Refused}
 
 -- ## A term and its arguments: c is what `cell_at` returned
 

@@ -28,8 +28,8 @@ use Rattle.supers.specs.Givens.{givens_of}
 use Rattle.supers.specs.declared.Root.{Root}
 use Rattle.supers.proofs.GivenLaws.{kept_list, kept_few}
 use Rattle.resolve.specs.Resolves.{Declared, ReadyResolve, Makes, GivesCore}
-use Rattle.resolve.specs.declared.Resolved.{Resolved}
-use Rattle.resolve.specs.declared.Resolved.TheVariants.{Done, Refused}
+use Rattle.resolve.specs.Resolved.{Resolved}
+use Rattle.resolve.specs.Resolved.{Done, Refused}
 use Rattle.resolve.proofs.Followed.{first_goal}
 
 -- ## What an answer says, by the arm of the match

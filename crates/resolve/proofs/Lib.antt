@@ -1,3 +1,4 @@
+pub mod Seen
 pub mod Followed
 pub mod Choices
 pub mod Dictionaries

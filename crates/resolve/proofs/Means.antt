@@ -12,8 +12,8 @@ use Rattle.theorems.proofs.Theorems.{resolve_derives, resolve_decides}
 use Rattle.errors.specs.Refusals.{refusal_of}
 use Rattle.cores.specs.Terms.{core}
 use Rattle.resolve.specs.Resolves.{Declared, GivesCore}
-use Rattle.resolve.specs.declared.Resolved.{Resolved}
-use Rattle.resolve.specs.declared.Resolved.TheVariants.{Done, Refused}
+use Rattle.resolve.specs.Resolved.{Resolved}
+use Rattle.resolve.specs.Resolved.{Done, Refused}
 
 -- What the answer says of derivations.
 abbrev pub Resolves : List ℕ → List ℕ → ClassEnv → List Given → Pred → Resolved → Type 0

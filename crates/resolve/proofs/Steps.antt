@@ -23,10 +23,10 @@ use Rattle.supers.specs.declared.Root.{Root}
 use Rattle.supers.proofs.GivenLaws.{kept_list}
 use Rattle.resolve.specs.Ways.{at_hand, by, way_to, dictionary, follow}
 use Rattle.resolve.specs.Resolves.{Declared, ReadyResolve, ReadyBuild, CoreAs, GivesCore, Chooses, WayAs, GivesWay}
-use Rattle.resolve.specs.declared.Resolved.{Resolved}
-use Rattle.resolve.specs.declared.Resolved.TheVariants.{Done, Refused}
-use Rattle.resolve.specs.declared.Choice.{Choice}
-use Rattle.resolve.specs.declared.Choice.TheVariants.{Given, By, Refused as C-Refused}
+use Rattle.resolve.specs.Resolved.{Resolved}
+use Rattle.resolve.specs.Resolved.{Done, Refused}
+use Rattle.resolve.specs.Choice.{Choice}
+use Rattle.resolve.specs.Choice.{Given, By, Refused as C-Refused}
 use Rattle.resolve.proofs.Followed.{no_depth, no_steps, goes_way}
 use Rattle.resolve.proofs.Goals.{made, lost, declared_kept, ready_on}
 
@@ -58,8 +58,8 @@ module _ {ns w il : List ℕ} {top left sp : ℕ} {root : Root} {l t : ℕ} (R :
   module _ (hd : d ≡ 0 → ⊥) where
     -- No step is left.
     pub res_spent : left ≡ 0 → GivesCore (Declared ns cl w top il) (core ns w) (4 * top + 8 * left - 4) 1 ns w w top left sp
-        (λ ce. resolve_in d ce (givens_of ns w root 0 l) (pred (name_of ns c) (tree ns w t)) left) (Refused No-steps top 0)
-    res_spent h = record { stands = stands_refl _ _ _; answer = λ ce D. refuse_here (no_steps d left ce _ _ hd h) tt (omega arith) }
+        (λ ce. resolve_in d ce (givens_of ns w root 0 l) (pred (name_of ns c) (tree ns w t)) left) (Refused No-steps top left)
+    res_spent h = record { stands = stands_refl _ _ _; answer = λ ce D. refuse_here (no_steps d left ce _ _ hd h ∙ rw h) tt (omega arith) }
 
     module _ (hl : left ≡ 0 → ⊥) where
       -- What `find_way` asks.

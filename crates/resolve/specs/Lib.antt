@@ -1,2 +1,4 @@
+pub mod Resolved
+pub mod Choice
 pub mod Ways
 pub mod Resolves

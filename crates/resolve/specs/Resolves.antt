@@ -15,10 +15,10 @@ use Rattle.supers.specs.ClassTable.{Supers}
 use Rattle.supers.specs.Givens.{Few}
 use Rattle.supers.specs.declared.Root.{Root}
 use Rattle.resolve.specs.Ways.{Way, at_hand, by}
-use Rattle.resolve.specs.declared.Resolved.{Resolved}
-use Rattle.resolve.specs.declared.Resolved.TheVariants.{Done, Refused}
-use Rattle.resolve.specs.declared.Choice.{Choice}
-use Rattle.resolve.specs.declared.Choice.TheVariants.{Given, By, Refused as Choice-Refused}
+use Rattle.resolve.specs.Resolved.{Resolved}
+use Rattle.resolve.specs.Resolved.{Done, Refused}
+use Rattle.resolve.specs.Choice.{Choice}
+use Rattle.resolve.specs.Choice.{Given, By, Refused as Choice-Refused}
 
 -- ## What is asked
 

@@ -1,12 +1,14 @@
 -- Rows that are written and compared.
 use mathlib.Core.Path.{◌≡◌, refl, sym, ap, ◌∙◌}
-use mathlib.Core.Bool.{false}
+use mathlib.Core.Bool.{Bool, true, false, ◌&&◌}
 use mathlib.Core.List.{List}
 use Prim.Native.Nat.{ℕ, ◌+◌, ◌*◌, ◌<◌, ◌≤◌}
+use native.Mathlib.Decide.{ℕ_discrete}
 use native.Mathlib.Omega.{arith}
 use lib.ListN.{length, get_or, set, length-set}
 use lib.Seq.{get_or-set_same, get_or-set_other}
 use lib.Dec as code
+use borrow.Author.Tests.{eq-eqb, ne_eqb}
 use Rattle.meaning.specs.Base.{eqb}
 use Rattle.names.specs.declared.Key.{Key}
 use Rattle.names.specs.Names.{row}
@@ -103,16 +105,26 @@ bare_fits k f = record { a_fits = f.a_fits; b_fits = f.b_fits; c_fits = f.c_fits
 numbers_same : (k : Key) (ns : List ℕ) (r : ℕ) → eqb (key_number (bare k)) (key_number (row_key ns r)) ≡ eqb (bytes_of k) (row ns r)
 numbers_same k ns r = ap (λ (m : ℕ). eqb m (key_number (row_key ns r))) (bare_bytes k) ∙ ap (λ (m : ℕ). eqb (bytes_of k) m) (alone (row_key ns r) refl ∙ key_row ns r)
 
--- A word differs.
-pub row_differs : (k : Key) (ns : List ℕ) (r : ℕ) → Fit k → Words ns → (SameWords (bare k) (row_key ns r) → ⊥) → false ≡ eqb (bytes_of k) (row ns r)
-row_differs k ns r f w n = unequal (bare k) (row_key ns r) (bare_fits k f) (row_fits ns r w) n ∙ numbers_same k ns r
+-- The words are compared in turn.
+pub words_tell : (k : Key) (ns : List ℕ) (r : ℕ) → Fit k → Words ns
+    → (((code.eqb k.a (get_or ns (4 * r) 0) && code.eqb k.b (get_or ns (4 * r + 1) 0)) && code.eqb k.c (get_or ns (4 * r + 2) 0)) && code.eqb k.d (get_or ns (4 * r + 3) 0))
+    ≡ eqb (bytes_of k) (row ns r)
+words_tell k ns r f w = go (ℕ_discrete k.a (get_or ns (4 * r) 0)) (ℕ_discrete k.b (get_or ns (4 * r + 1) 0)) (ℕ_discrete k.c (get_or ns (4 * r + 2) 0))
+  where
+    differs : (SameWords (bare k) (row_key ns r) → ⊥) → false ≡ eqb (bytes_of k) (row ns r)
+    differs n = unequal (bare k) (row_key ns r) (bare_fits k f) (row_fits ns r w) n ∙ numbers_same k ns r
 
--- The last words decide.
-pub row_tells : (k : Key) (ns : List ℕ) (r : ℕ) → Fit k → Words ns → k.a ≡ get_or ns (4 * r) 0 → k.b ≡ get_or ns (4 * r + 1) 0 → k.c ≡ get_or ns (4 * r + 2) 0
-    → code.eqb k.d (get_or ns (4 * r + 3) 0) ≡ eqb (bytes_of k) (row ns r)
-row_tells k ns r f w p q s = d_tells (bare k) (row_key ns r) (bare_fits k f) (row_fits ns r w) refl p q s ∙ numbers_same k ns r
+    go : Dec (k.a ≡ get_or ns (4 * r) 0) → Dec (k.b ≡ get_or ns (4 * r + 1) 0) → Dec (k.c ≡ get_or ns (4 * r + 2) 0)
+        → (((code.eqb k.a (get_or ns (4 * r) 0) && code.eqb k.b (get_or ns (4 * r + 1) 0)) && code.eqb k.c (get_or ns (4 * r + 2) 0)) && code.eqb k.d (get_or ns (4 * r + 3) 0))
+        ≡ eqb (bytes_of k) (row ns r)
+    go (no n) d e = rw (ne_eqb _ _ n) (differs (λ s. n s.a_same))
+    go (yes p) (no n) e = rw (eq-eqb _ _ p, ne_eqb _ _ n) (differs (λ s. n s.b_same))
+    go (yes p) (yes q) (no n) = rw (eq-eqb _ _ p, eq-eqb _ _ q, ne_eqb _ _ n) (differs (λ s. n s.c_same))
+    go (yes p) (yes q) (yes s) = rw (eq-eqb _ _ p, eq-eqb _ _ q, eq-eqb _ _ s) (d_tells (bare k) (row_key ns r) (bare_fits k f) (row_fits ns r w) refl p q s ∙ numbers_same k ns r)
 
--- The same of a word that was read.
-pub row_last : (k : Key) (ns : List ℕ) (r w : ℕ) → Fit k → Words ns → k.a ≡ get_or ns (4 * r) 0 → k.b ≡ get_or ns (4 * r + 1) 0 → k.c ≡ get_or ns (4 * r + 2) 0
-    → w ≡ get_or ns (4 * r + 3) 0 → code.eqb k.d w ≡ eqb (bytes_of k) (row ns r)
-row_last k ns r w f u p q s e = ap (λ (x : ℕ). code.eqb k.d x) e ∙ row_tells k ns r f u p q s
+-- A test and another, which is made where the first one holds.
+pub both_of : {a r v : Bool} (b : Bool) → r ≡ a → r ≡ true → v ≡ b → v ≡ (a && b)
+both_of b e h i = rw (← e, h) i
+
+pub first_fails : {a r v : Bool} (b : Bool) → r ≡ a → r ≡ false → v ≡ r → v ≡ (a && b)
+first_fails b e h i = rw (← e, h) (i ∙ h)

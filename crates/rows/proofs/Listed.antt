@@ -3,7 +3,7 @@ use mathlib.Core.Path.{◌≡◌, refl, sym, ap, ◌∙◌}
 use mathlib.Core.Bool.{Bool, true, false}
 use mathlib.Core.List.{List, [], ◌∷◌, ◌++◌}
 use mathlib.Core.Option.{some}
-use Prim.Native.Nat.{ℕ, zero, suc, ◌+◌, ◌-◌, ◌<◌, ◌≤◌}
+use Prim.Native.Nat.{ℕ, zero, suc, ◌+◌, ◌<◌, ◌≤◌}
 use native.Mathlib.Decide.{ℕ_discrete}
 use native.Mathlib.Omega.{arith}
 use Rattle.meaning.specs.Base.{is_yes, if, eqb, any, count, nth}
@@ -14,15 +14,6 @@ use Rattle.theorems.proofs.Tests.{is_yes_of, is_no_of, eqb_false, none_some, som
 use Rattle.rows.specs.Rows.{names_from, among}
 
 -- ## names of rows
--- The first of them.
-names_step : (ns : List ℕ) (r k : ℕ) → 0 < k → names_from ns r k ≡ name (row ns r) ∷ names_from ns (r + 1) (k - 1)
-unfolding names_from
-names_step ns r zero h = absurd (omega arith)
-names_step ns r (suc k) h = ap (λ (n : ℕ). name (row ns r) ∷ names_from ns (r + 1) n) (go k)
-  where
-    go : (n : ℕ) → n ≡ suc n - 1
-    go n = omega arith
-
 -- The last of them.
 pub names_snoc : (ns : List ℕ) (r k : ℕ) → names_from ns r (suc k) ≡ names_from ns r k ++ name (row ns (r + k)) ∷ []
 unfolding names_from
@@ -81,37 +72,35 @@ among_first : (m n : ℕ) (ys : List Name) → among (name m) (name n ∷ ys) �
 unfolding among any
 among_first m n ys = ap (λ (b : Bool). if b true (any (λ y. is_yes (same_name (name m) y)) ys)) (same_eqb m n)
 
--- The rows before r have other bytes: the rows from there on decide.
-pub record Searched (bytes : ℕ) (ns : List ℕ) (m r left : ℕ) : Type 0 where
-  pub ends : r + left ≡ 35 + m
-  pub same : among (name bytes) (names_from ns 35 m) ≡ among (name bytes) (names_from ns r left)
+-- One row more has other bytes.
+pub none_more : (bytes : ℕ) (ns : List ℕ) (r : ℕ) → ((j : ℕ) → 35 ≤ j → j < r → eqb bytes (row ns j) ≡ false) → eqb bytes (row ns r) ≡ false
+    → (j : ℕ) → 35 ≤ j → j < r + 1 → eqb bytes (row ns j) ≡ false
+none_more bytes ns r h e j p q = go (ℕ_discrete j r)
+  where
+    go : Dec (j ≡ r) → eqb bytes (row ns j) ≡ false
+    go (yes i) = rw i e
+    go (no n) = h j p (omega arith)
 
--- No row is compared yet.
-pub none_searched : (bytes : ℕ) (ns : List ℕ) (m : ℕ) → Searched bytes ns m 35 m
-none_searched bytes ns m = record { ends = refl; same = refl }
-
-opened : {bytes : ℕ} {ns : List ℕ} {m r left : ℕ} {s : Bool} → Searched bytes ns m r left → 0 < left → s ≡ eqb bytes (row ns r)
-    → among (name bytes) (names_from ns 35 m) ≡ if s true (among (name bytes) (names_from ns (r + 1) (left - 1)))
-opened {bytes} {ns} {m} {r} {left} {s} p h e = p.same ∙ ap (among (name bytes)) (names_step ns r left h) ∙ among_first bytes (row ns r) _
-    ∙ ap (λ (b : Bool). if b true (among (name bytes) (names_from ns (r + 1) (left - 1)))) (sym e)
-
--- One row more has others.
-pub one_searched : {bytes : ℕ} {ns : List ℕ} {m r left : ℕ} {s : Bool} → Searched bytes ns m r left → 0 < left → s ≡ eqb bytes (row ns r) → s ≡ false
-    → Searched bytes ns m (r + 1) (left - 1)
-one_searched {bytes} {ns} {m} {r} {left} {s} p h e f = record {
-  ends = omega (arith, p.ends);
-  same = opened p h e ∙ ap (λ (b : Bool). if b true (among (name bytes) (names_from ns (r + 1) (left - 1)))) f;
-}
-
--- This one has the same.
-pub one_found : {bytes : ℕ} {ns : List ℕ} {m r left : ℕ} {s : Bool} → Searched bytes ns m r left → 0 < left → s ≡ eqb bytes (row ns r) → s ≡ true
-    → true ≡ among (name bytes) (names_from ns 35 m)
-one_found {bytes} {ns} {m} {r} {left} {s} p h e f = sym (opened p h e ∙ ap (λ (b : Bool). if b true (among (name bytes) (names_from ns (r + 1) (left - 1)))) f)
-
--- All rows have others.
-pub all_searched : {bytes : ℕ} {ns : List ℕ} {m r left : ℕ} → Searched bytes ns m r left → left ≡ 0 → false ≡ among (name bytes) (names_from ns 35 m)
+-- None of the rows has these bytes.
+pub none_with : (bytes : ℕ) (ns : List ℕ) (r m : ℕ) → ((j : ℕ) → r ≤ j → j < r + m → eqb bytes (row ns j) ≡ false) → among (name bytes) (names_from ns r m) ≡ false
 unfolding among any names_from
-all_searched {bytes} {ns} {m} {r} {left} p h = sym (p.same ∙ ap (λ (n : ℕ). among (name bytes) (names_from ns r n)) h)
+none_with bytes ns r zero h = refl
+none_with bytes ns r (suc m) h = among_first bytes (row ns r) (names_from ns (r + 1) m)
+    ∙ rw (h r (omega arith) (omega arith)) (none_with bytes ns (r + 1) m (λ j p q. h j (omega arith) (omega arith)))
+
+-- One of them has.
+pub one_with : (bytes : ℕ) (ns : List ℕ) (r m j : ℕ) → r ≤ j → j < r + m → eqb bytes (row ns j) ≡ true → among (name bytes) (names_from ns r m) ≡ true
+unfolding names_from
+one_with bytes ns r zero j h k e = absurd (omega arith)
+one_with bytes ns r (suc m) j h k e = among_first bytes (row ns r) (names_from ns (r + 1) m) ∙ go (ℕ_discrete r j) (λ n. one_with bytes ns (r + 1) m j (omega arith) (omega arith) e)
+  where
+    go : Dec (r ≡ j) → ((r ≡ j → ⊥) → among (name bytes) (names_from ns (r + 1) m) ≡ true) → if (eqb bytes (row ns r)) true (among (name bytes) (names_from ns (r + 1) m)) ≡ true
+    go (yes q) ih = rw (ap (λ (i : ℕ). eqb bytes (row ns i)) q ∙ e) refl
+    go (no n) ih = rw (ih n) (either (eqb bytes (row ns r)))
+      where
+        either : (b : Bool) → if b true true ≡ true
+        either true = refl
+        either false = refl
 
 -- A name that is not among them is in none of the rows.
 pub none_same : (bytes : ℕ) (ns : List ℕ) (r k j : ℕ) → among (name bytes) (names_from ns r k) ≡ false → j < k → row ns (r + j) ≡ bytes → ⊥

@@ -1,12 +1,10 @@
 -- Rows of a table of names: four words each.
-use Rattle.std.specs.Prelude.{◌≡◌, Bool, List, [], ◌∷◌, ℕ, suc, zero, ◌+◌, ◌*◌, ◌^◌, ◌<◌, set, get_or}
+use Rattle.std.specs.Prelude.{◌≡◌, Bool, List, [], ◌∷◌, ℕ, suc, zero, ◌+◌, ◌*◌, ◌^◌, ◌<◌, set, get_or, Option, Some, None}
 use Rattle.meaning.specs.Base.{is_yes, any}
 use Rattle.meaning.specs.Ast.{Name, name, same_name}
 use Rattle.names.specs.declared.Key.{Key}
 use Rattle.names.specs.Names.{row}
 use Rattle.names.specs.Keys.{bytes_of}
-use Rattle.rows.specs.declared.Built.{Built}
-use Rattle.rows.specs.declared.Built.TheVariants.{At, Nothing}
 use Rattle.rows.specs.BuiltIns.{First}
 
 -- The words with a row written.
@@ -31,11 +29,11 @@ pub record Filled (ns : List ℕ) : Type 0 where
   pub first : (r : ℕ) → r < 1059 → First r (row ns r)
 
 -- Which of the first 35 rows has these bytes.
-abbrev pub BuiltAs : List ℕ → ℕ → Built → Type 0
-BuiltAs ns bytes (At b) = (b < 35) × (row ns b ≡ bytes)
-BuiltAs ns bytes Nothing = (b : ℕ) → b < 35 → row ns b ≡ bytes → ⊥
+abbrev pub BuiltAs : List ℕ → ℕ → Option ℕ → Type 0
+BuiltAs ns bytes (Some b) = (b < 35) × (row ns b ≡ bytes)
+BuiltAs ns bytes None = (b : ℕ) → b < 35 → row ns b ≡ bytes → ⊥
 
-pub record IsBuilt (ns : List ℕ) (bytes : ℕ) (r : Built) : Type 0 where
+pub record IsBuilt (ns : List ℕ) (bytes : ℕ) (r : Option ℕ) : Type 0 where
   pub is : BuiltAs ns bytes r
 
 -- The words of a table are words.

@@ -13,94 +13,80 @@ ghost use Rattle.rows.specs.Rows.{row_set, RowIs, names_from, among, Filled, IsB
 
 use names::Key;
 
-// The row of a built-in name; or it is none.
-#[derive(Clone, Copy)]
-pub enum Built {
-    At(usize),
-    Nothing,
-}
-
-// The first two words of each built-in name; their other words are zero.
-const BUILT_INS: [u64; 70] = [
-    5291294155555733504,
-    0,
-    4787167438565277696,
-    0,
-    8102654597562393673,
-    7958986441470509056,
-    8102654597563049026,
-    8029755407880683520,
-    8102654597630345839,
-    8028792235694751744,
-    8102654597630347630,
-    8358680908399640576,
-    8102654597747984750,
-    8358680908399640576,
-    8102654597764836425,
-    7958986441470509056,
-    8102654597781222466,
-    8029755407880683520,
-    6989586621679009792,
-    0,
-    7061644215716937728,
-    0,
-    7133701809754865664,
-    0,
-    7205759403792793600,
-    0,
-    7277816997830721536,
-    0,
-    7349874591868649472,
-    0,
-    7421932185906577408,
-    0,
-    7493989779944505344,
-    0,
-    7566047373982433280,
-    0,
-    7638104968020361216,
-    0,
-    7710162562058289152,
-    0,
-    7782220156096217088,
-    0,
-    7854277750134145024,
-    0,
-    7926335344172072960,
-    0,
-    7998392938210000896,
-    0,
-    8070450532247928832,
-    0,
-    8142508126285856768,
-    0,
-    8214565720323784704,
-    0,
-    8286623314361712640,
-    0,
-    8358680908399640576,
-    0,
-    8430738502437568512,
-    0,
-    8502796096475496448,
-    0,
-    8574853690513424384,
-    0,
-    8646911284551352320,
-    0,
-    8718968878589280256,
-    0,
-    8791026472627208192,
-    0,
+// The first two words of each built-in name, its bytes from the highest on; its other words are zero. (No text: a constant
+// calls no function, and over an array of byte strings the proof of `built_in_key` did not close.)
+const BUILT_INS: [[u64; 2]; 35] = [
+    // Int
+    [0x496e_7400_0000_0000, 0],
+    // Bool
+    [0x426f_6f6c_0000_0000, 0],
+    // primAddInt
+    [0x7072_696d_4164_6449, 0x6e74_0000_0000_0000],
+    // primAndBool
+    [0x7072_696d_416e_6442, 0x6f6f_6c00_0000_0000],
+    // primEqBool
+    [0x7072_696d_4571_426f, 0x6f6c_0000_0000_0000],
+    // primEqInt
+    [0x7072_696d_4571_496e, 0x7400_0000_0000_0000],
+    // primLtInt
+    [0x7072_696d_4c74_496e, 0x7400_0000_0000_0000],
+    // primMulInt
+    [0x7072_696d_4d75_6c49, 0x6e74_0000_0000_0000],
+    // primNotBool
+    [0x7072_696d_4e6f_7442, 0x6f6f_6c00_0000_0000],
+    // a
+    [0x6100_0000_0000_0000, 0],
+    // b
+    [0x6200_0000_0000_0000, 0],
+    // c
+    [0x6300_0000_0000_0000, 0],
+    // d
+    [0x6400_0000_0000_0000, 0],
+    // e
+    [0x6500_0000_0000_0000, 0],
+    // f
+    [0x6600_0000_0000_0000, 0],
+    // g
+    [0x6700_0000_0000_0000, 0],
+    // h
+    [0x6800_0000_0000_0000, 0],
+    // i
+    [0x6900_0000_0000_0000, 0],
+    // j
+    [0x6a00_0000_0000_0000, 0],
+    // k
+    [0x6b00_0000_0000_0000, 0],
+    // l
+    [0x6c00_0000_0000_0000, 0],
+    // m
+    [0x6d00_0000_0000_0000, 0],
+    // n
+    [0x6e00_0000_0000_0000, 0],
+    // o
+    [0x6f00_0000_0000_0000, 0],
+    // p
+    [0x7000_0000_0000_0000, 0],
+    // q
+    [0x7100_0000_0000_0000, 0],
+    // r
+    [0x7200_0000_0000_0000, 0],
+    // s
+    [0x7300_0000_0000_0000, 0],
+    // t
+    [0x7400_0000_0000_0000, 0],
+    // u
+    [0x7500_0000_0000_0000, 0],
+    // v
+    [0x7600_0000_0000_0000, 0],
+    // w
+    [0x7700_0000_0000_0000, 0],
+    // x
+    [0x7800_0000_0000_0000, 0],
+    // y
+    [0x7900_0000_0000_0000, 0],
+    // z
+    [0x7a00_0000_0000_0000, 0],
 ];
-
-// A word of the table.
-fn word(names: &[u64], i: usize) -> u64
-    requires { i < length names.now }
-    ensures { result ≡ get_or names.now i 0 }
-{
-    names[i]
-}
 
 // Writes a row.
 pub fn put_row(names: &mut [u64], r: usize, k: Key)
@@ -135,16 +121,7 @@ fn same_row(names: &[u64], r: usize, k: Key) -> bool
     ensures { result ≡ eqb (bytes_of k) (row names.now r) }
 {
     let i = 4 * r;
-    if k.a != word(names, i) {
-        return false;
-    }
-    if k.b != word(names, i + 1) {
-        return false;
-    }
-    if k.c != word(names, i + 2) {
-        return false;
-    }
-    k.d == word(names, i + 3)
+    k.a == names[i] && k.b == names[i + 1] && k.c == names[i + 2] && k.d == names[i + 3]
 }
 
 // Whether one of the first m names of the file has these bytes.
@@ -152,43 +129,37 @@ pub fn is_known(names: &[u64], k: Key, m: usize) -> bool
     requires { 4 * m + 140 ≤ length names.now }
     ensures { result ≡ among (name (bytes_of k)) (names_from names.now 35 m) }
 {
-    let mut r: usize = 35;
-    let mut left = m;
-    while left > 0 {
+    for r in 35..35 + m {
         if same_row(names, r, k) {
             return true;
         }
-        r += 1;
-        left -= 1;
     }
     false
 }
 
 // The row of the built-in name of these bytes.
-pub fn built_in(names: &[u64], k: Key) -> Built
+pub fn built_in(names: &[u64], k: Key) -> Option<usize>
     requires { 140 ≤ length names.now }
     ensures { IsBuilt names.now (bytes_of k) result }
 {
-    let mut b: usize = 0;
-    while b < 35 {
+    for b in 0..35 {
         if same_row(names, b, k) {
-            return Built::At(b);
+            return Some(b);
         }
-        b += 1;
     }
-    Built::Nothing
+    None
 }
 
 // The bytes of a built-in name.
-fn built_in_key(b: usize) -> Key
-    requires { b < 35 }
-    ensures { nth built_ins b ≡ some (name (bytes_of result)) }
+fn built_in_key(r: usize) -> Key
+    requires { r < 35 }
+    ensures { nth built_ins r ≡ some (name (bytes_of result)) }
 {
-    let i = 2 * b;
+    let [a, b] = BUILT_INS[r];
     Key {
         over: 0,
-        a: BUILT_INS[i],
-        b: BUILT_INS[i + 1],
+        a,
+        b,
         c: 0,
         d: 0,
     }
@@ -199,14 +170,15 @@ pub fn first_key(r: usize) -> Key
     ensures { First r (bytes_of result) }
 {
     if r < 35 {
-        return built_in_key(r);
-    }
-    Key {
-        over: 0,
-        a: 0,
-        b: 0,
-        c: 0,
-        d: r as u64,
+        built_in_key(r)
+    } else {
+        Key {
+            over: 0,
+            a: 0,
+            b: 0,
+            c: 0,
+            d: r as u64,
+        }
     }
 }
 
@@ -215,10 +187,7 @@ pub fn fill(names: &mut [u64])
     requires { length names.old ≡ 4236 }
     ensures { Filled names.new }
 {
-    let mut r: usize = 0;
-    while r < 1059 {
-        let k = first_key(r);
-        put_row(names, r, k);
-        r += 1;
+    for r in 0..1059 {
+        put_row(names, r, first_key(r));
     }
 }

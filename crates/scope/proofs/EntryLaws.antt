@@ -5,7 +5,7 @@ use Prim.Native.Nat.{ℕ, zero, suc, ◌+◌, ◌*◌, ◌≤◌}
 use native.Mathlib.Omega.{arith}
 use lib.ListN.{length, get_or, set, length-set}
 use lib.Seq.{get_or-set_same, get_or-set_other}
-use Rattle.scope.specs.Scope.{entry, entry_of, written, with_entry}
+use Rattle.scope.specs.Scope.{closed_entry, local_entry, entry, entry_of, written, with_entry}
 use Rattle.scope.specs.declared.Entry.{Entry}
 use Rattle.scope.specs.declared.Entry.TheVariants.{Nothing, Closed, Local}
 
@@ -14,11 +14,11 @@ pub is_nothing : (s vs ps t : ℕ) → s ≡ 0 → Nothing ≡ entry s vs ps t
 is_nothing s vs ps t e = rw e
 
 -- State 1.
-pub is_closed : (s vs ps t : ℕ) → s ≡ 1 → Closed vs ps t ≡ entry s vs ps t
+pub is_closed : (s vs ps t : ℕ) → s ≡ 1 → closed_entry vs ps t ≡ entry s vs ps t
 is_closed s vs ps t e = rw e
 
 -- Any other state.
-pub is_local : (s vs ps t : ℕ) → (s ≡ 0 → ⊥) → (s ≡ 1 → ⊥) → Local vs ps t ≡ entry s vs ps t
+pub is_local : (s vs ps t : ℕ) → (s ≡ 0 → ⊥) → (s ≡ 1 → ⊥) → local_entry vs ps t ≡ entry s vs ps t
 is_local zero vs ps t h k = absurd (h refl)
 is_local (suc zero) vs ps t h k = absurd (k refl)
 is_local (suc (suc s)) vs ps t h k = refl
@@ -86,17 +86,17 @@ module _ (ev : List ℕ) (r s vs ps t : ℕ) where
 -- The same of an entry: no word is added or lost.
 pub entry_long : (ev : List ℕ) (r : ℕ) (e : Entry) → length (with_entry ev r e) ≡ length ev
 entry_long ev r Nothing = written_long ev r 0 0 0 0
-entry_long ev r (Closed vs ps t) = written_long ev r 1 vs ps t
-entry_long ev r (Local vs ps t) = written_long ev r 2 vs ps t
+entry_long ev r (Closed s) = written_long ev r 1 s.vars s.preds s.ty
+entry_long ev r (Local s) = written_long ev r 2 s.vars s.preds s.ty
 
 -- What was written is read.
 pub entry_here : (ev : List ℕ) (r : ℕ) (e : Entry) → 4 * r + 4 ≤ length ev → entry_of (with_entry ev r e) r ≡ e
 entry_here ev r Nothing h = written_here ev r 0 0 0 0 h
-entry_here ev r (Closed vs ps t) h = written_here ev r 1 vs ps t h
-entry_here ev r (Local vs ps t) h = written_here ev r 2 vs ps t h
+entry_here ev r (Closed s) h = written_here ev r 1 s.vars s.preds s.ty h
+entry_here ev r (Local s) h = written_here ev r 2 s.vars s.preds s.ty h
 
 -- Other rows stand.
 pub entry_other : (ev : List ℕ) (r : ℕ) (e : Entry) (j : ℕ) → (j ≡ r → ⊥) → entry_of (with_entry ev r e) j ≡ entry_of ev j
 entry_other ev r Nothing j h = written_other ev r 0 0 0 0 j h
-entry_other ev r (Closed vs ps t) j h = written_other ev r 1 vs ps t j h
-entry_other ev r (Local vs ps t) j h = written_other ev r 2 vs ps t j h
+entry_other ev r (Closed s) j h = written_other ev r 1 s.vars s.preds s.ty j h
+entry_other ev r (Local s) j h = written_other ev r 2 s.vars s.preds s.ty j h

@@ -25,7 +25,7 @@ use Rattle.vars.proofs.VarLaws.{kept_vars, low_vars}
 use Rattle.subst.specs.Schemes.{scheme_of_word}
 use Rattle.subst.specs.Preds.{class_at, preds_of_word}
 use Rattle.subst.proofs.PredLaws.{kept_preds, low_preds, preds_cons}
-use Rattle.scope.specs.Scope.{scheme_in, Small, Smalls, no_preds, one_more, Fine, Held, EntryIn}
+use Rattle.scope.specs.Scope.{local_entry, scheme_in, Small, Smalls, no_preds, one_more, Fine, Held, EntryIn}
 use Rattle.scope.specs.declared.Entry.{Entry}
 use Rattle.scope.specs.declared.Entry.TheVariants.{Nothing, Closed, Local}
 
@@ -122,15 +122,15 @@ held_kept ns K T h H = record {
 -- An entry holds.
 pub entry_kept : {w w' : List ℕ} {top top' : ℕ} (ns : List ℕ) (e : Entry) → Kept w w' top → Table w' top' → top ≤ top' → EntryIn ns w top e → EntryIn ns w' top' e
 entry_kept ns Nothing K T h E = tt
-entry_kept ns (Closed vs ps t) K T h E = let H = E.held in
+entry_kept ns (Closed s) K T h E = let H = E.held in
     record { held = held_kept ns K T h H; closed = rw (kept_scheme ns K H.vars H.preds H.type) E.closed }
-entry_kept ns (Local vs ps t) K T h E = held_kept ns K T h E
+entry_kept ns (Local s) K T h E = held_kept ns K T h E
 
 -- It stands for the same scheme.
 pub scheme_kept : {w w' : List ℕ} {top : ℕ} (ns : List ℕ) (e : Entry) → Kept w w' top → EntryIn ns w top e → scheme_in ns w' e ≡ scheme_in ns w e
 scheme_kept ns Nothing K E = refl
-scheme_kept ns (Closed vs ps t) K E = rw (kept_scheme ns K E.held.vars E.held.preds E.held.type)
-scheme_kept ns (Local vs ps t) K E = rw (kept_scheme ns K E.vars E.preds E.type)
+scheme_kept ns (Closed s) K E = rw (kept_scheme ns K E.held.vars E.held.preds E.held.type)
+scheme_kept ns (Local s) K E = rw (kept_scheme ns K E.vars E.preds E.type)
 
 -- ## The scheme of a type alone
 
@@ -139,7 +139,7 @@ pub mono_is : (ns w : List ℕ) (t : ℕ) → scheme_of_word ns w 0 0 t ≡ mono
 mono_is ns w t = rw (low_vars ns w 0 (omega arith), low_preds ns w 0 (omega arith))
 
 -- What an entry of the three words has.
-pub mono_in : (ns w : List ℕ) (t : ℕ) → scheme_in ns w (Local 0 0 t) ≡ some (mono (tree ns w t))
+pub mono_in : (ns w : List ℕ) (t : ℕ) → scheme_in ns w (local_entry 0 0 t) ≡ some (mono (tree ns w t))
 mono_in ns w t = rw (mono_is ns w t)
 
 -- It is fine.

@@ -22,10 +22,10 @@ use Rattle.vars.proofs.Bound.{and_false}
 use Rattle.subst.specs.Preds.{preds_of_word}
 use Rattle.subst.specs.Schemes.{scheme_of_word}
 use Rattle.subst.proofs.PredLaws.{preds_nil, preds_cons}
-use Rattle.scope.specs.Scope.{entry_of, scheme_in, with_scheme, env_from, env_of, Held, HeldClosed, EntryIn}
+use Rattle.scope.specs.Scope.{closed_entry, local_entry, entry_of, scheme_in, with_scheme, env_from, env_of, Held, HeldClosed, EntryIn}
 use Rattle.scope.specs.Sweeps.{ftv_in}
 use Rattle.scope.specs.declared.Entry.{Entry}
-use Rattle.scope.specs.declared.Entry.TheVariants.{Nothing, Closed, Local}
+use Rattle.scope.specs.declared.Entry.TheVariants.{Nothing}
 use Rattle.scope.proofs.Envs.{name_at, scheme_at}
 
 -- ## Tests
@@ -113,17 +113,17 @@ module _ (ns w ev : List ℕ) (r : ℕ) {q : Entry} (e : q ≡ entry_of ev r) wh
 
   module _ (top : ℕ) (E : EntryIn ns w top (entry_of ev r)) {vs ps t : ℕ} where
     -- A closed scheme has no free variable.
-    pub closed_free : (x : ℕ) → q ≡ Closed vs ps t → false ≡ elem tyvars (tyvar_of ns x) (ftv_in (scheme_in ns w (entry_of ev r)))
+    pub closed_free : (x : ℕ) → q ≡ closed_entry vs ps t → false ≡ elem tyvars (tyvar_of ns x) (ftv_in (scheme_in ns w (entry_of ev r)))
     closed_free x f =
         let H : HeldClosed ns w top vs ps t = rw (sym e ∙ f) at E in
         rw (sym e ∙ f) (sym (null-elem (tyvar_of ns x) (ftv_scheme (scheme_of_word ns w vs ps t)) H.closed))
 
     -- The words of any other.
-    pub local_held : q ≡ Local vs ps t → Held ns w top vs ps t
+    pub local_held : q ≡ local_entry vs ps t → Held ns w top vs ps t
     local_held f = rw (sym e ∙ f) at E
 
   -- Its scheme tells.
-  pub local_free : (x : ℕ) {vs ps t : ℕ} {z : Bool} → q ≡ Local vs ps t → z ≡ elem tyvars (tyvar_of ns x) (ftv_scheme (scheme_of_word ns w vs ps t)) → z ≡ elem tyvars (tyvar_of ns x) (ftv_in (scheme_in ns w (entry_of ev r)))
+  pub local_free : (x : ℕ) {vs ps t : ℕ} {z : Bool} → q ≡ local_entry vs ps t → z ≡ elem tyvars (tyvar_of ns x) (ftv_scheme (scheme_of_word ns w vs ps t)) → z ≡ elem tyvars (tyvar_of ns x) (ftv_in (scheme_in ns w (entry_of ev r)))
   local_free x f g = rw (sym e ∙ f) g
 
 -- ## The loop of `is_free`: the rows from number i on have the variable just where all have

@@ -7,3 +7,4 @@ pub mod Sweeping
 pub mod FreeLaws
 pub mod States
 pub mod Empties
+pub mod Seen

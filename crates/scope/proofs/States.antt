@@ -17,8 +17,8 @@ use Rattle.scope.specs.Scope.{entry_of, with_entry, scheme_in, env_of, Scope}
 use Rattle.scope.specs.Sweeps.{GivesEnv}
 use Rattle.scope.specs.declared.Entry.{Entry}
 use Rattle.scope.specs.declared.Entry.TheVariants.{Nothing, Closed, Local}
-use Rattle.scope.specs.declared.Swept.{Swept}
-use Rattle.scope.specs.declared.Swept.TheVariants.{Done, Refused}
+use Rattle.scope.specs.Swept.{Swept}
+use Rattle.scope.specs.Swept.{Done, Refused}
 use Rattle.scope.proofs.Laws.{scope_get, scope_put, scope_drop}
 
 module _ {ns w ev od : List ℕ} {top : ℕ} (S : Scope ns w ev od top) (st : State) (is : st.env ≡ env_of ns w ev od) (r : ℕ) (h : r < length od) (n : ℕ) where
@@ -32,8 +32,8 @@ module _ {ns w ev od : List ℕ} {top : ℕ} (S : Scope ns w ev od top) (st : St
   pub scope_restores : (e : Entry) → env_restore (name_of ns r) (scheme_in ns w e) st n ≡ done (tt, with_env (env_of ns w (with_entry ev r e) od) st) n
   unfolding env_restore
   scope_restores Nothing = rw (is, scope_drop S r h)
-  scope_restores (Closed vs ps t) = rw (is, scope_put S r h (Closed vs ps t) _ refl)
-  scope_restores (Local vs ps t) = rw (is, scope_put S r h (Local vs ps t) _ refl)
+  scope_restores (Closed s) = rw (is, scope_put S r h (Closed s) _ refl)
+  scope_restores (Local s) = rw (is, scope_put S r h (Local s) _ refl)
 
 module _ (s : Subst) {ns w w' ev ev' od : List ℕ} {top left : ℕ} {x : Swept} (G : GivesEnv ns w w' ev ev' od top left (apply_schemes s (env_of ns w ev od) left) x) (st : State) (is : st.env ≡ env_of ns w ev od) where
   -- First the rows, and then the state.

@@ -21,14 +21,14 @@ use Rattle.pairs.specs.Pairs.{sub_at, Stands}
 use Rattle.pairs.proofs.Frames.{stands_refl, stands_then, stands_up, sub-later, sub_stands}
 use Rattle.apply.proofs.Hand.{Then, then_done, refuse_on}
 use Rattle.subst.specs.Schemes.{scheme_of_word, ReadyScheme, GivesScheme}
-use Rattle.subst.specs.declared.AppliedQual.{AppliedQual}
-use Rattle.subst.specs.declared.AppliedQual.TheVariants.{Done as Qual-Done, Refused as Qual-Refused}
-use Rattle.scope.specs.Scope.{entry_of, with_entry, scheme_in, with_scheme, env_from, env_of, Fine, Held, HeldClosed, EntryIn, Scope}
+use Rattle.subst.specs.AppliedQual.{AppliedQual}
+use Rattle.subst.specs.AppliedQual.{Done as Qual-Done, Refused as Qual-Refused}
+use Rattle.scope.specs.Scope.{closed_entry, local_entry, entry_of, with_entry, scheme_in, with_scheme, env_from, env_of, Fine, Held, HeldClosed, EntryIn, Scope}
 use Rattle.scope.specs.Sweeps.{ReadyRow, applied, RowDone, GivesRow, ReadyEnv, GivesEnv}
 use Rattle.scope.specs.declared.Entry.{Entry}
-use Rattle.scope.specs.declared.Entry.TheVariants.{Nothing, Closed, Local}
-use Rattle.scope.specs.declared.Swept.{Swept}
-use Rattle.scope.specs.declared.Swept.TheVariants.{Done, Refused}
+use Rattle.scope.specs.declared.Entry.TheVariants.{Nothing}
+use Rattle.scope.specs.Swept.{Swept}
+use Rattle.scope.specs.Swept.{Done, Refused}
 use Rattle.scope.proofs.EntryLaws.{entry_long, entry_here, entry_other}
 use Rattle.scope.proofs.Envs.{name_at, scheme_at, apart, envs_same, env_last}
 use Rattle.scope.proofs.Fines.{apply_fine, entry_kept, scheme_kept}
@@ -51,7 +51,7 @@ module _ {ns w ev : List ℕ} {top left at k r : ℕ} (R : ReadyRow ns w ev top 
   }
 
   -- A closed scheme stays, for no step.
-  pub row_closed : {vs ps t : ℕ} → q ≡ Closed vs ps t → GivesRow ns w w ev ev top left r (applied (sub_at ns w at k) (scheme_in ns w (entry_of ev r)) left) (Done top left)
+  pub row_closed : {vs ps t : ℕ} → q ≡ closed_entry vs ps t → GivesRow ns w w ev ev top left r (applied (sub_at ns w at k) (scheme_in ns w (entry_of ev r)) left) (Done top left)
   unfolding applied apply_scheme after
   row_closed {vs} {ps} {t} f =
       let E : HeldClosed ns w top vs ps t = rw (sym e ∙ f) at R.entry in
@@ -61,7 +61,7 @@ module _ {ns w ev : List ℕ} {top left at k r : ℕ} (R : ReadyRow ns w ev top 
         answer = record { table = R.table; more = omega arith; spent = omega arith; down = omega arith; entry = R.entry; others = λ j h. refl; is = rw (sym e ∙ f, E.closed) };
       }
 
-  module _ {vs ps t : ℕ} (f : q ≡ Local vs ps t) where
+  module _ {vs ps t : ℕ} (f : q ≡ local_entry vs ps t) where
     -- The words of any other.
     held : Held ns w top vs ps t
     held = rw (sym e ∙ f) at R.entry
@@ -77,23 +77,23 @@ module _ {ns w ev : List ℕ} {top left at k r : ℕ} (R : ReadyRow ns w ev top 
       then_some = record { is = rw (sym e ∙ f) }
 
       -- It is replaced.
-      pub row_applied : {ev₁ : List ℕ} {ps₁ u t₁ l₁ : ℕ} → x ≡ Qual-Done ps₁ u t₁ l₁ → ev₁ ≡ with_entry ev r (Local vs ps₁ u)
+      pub row_applied : {ev₁ : List ℕ} {ps₁ u t₁ l₁ : ℕ} → x ≡ Qual-Done ps₁ u t₁ l₁ → ev₁ ≡ with_entry ev r (local_entry vs ps₁ u)
           → GivesRow ns w w₁ ev ev₁ top left r (applied (sub_at ns w at k) (scheme_in ns w (entry_of ev r)) left) (Done t₁ l₁)
       row_applied {ev₁} {ps₁} {u} {t₁} {l₁} g p =
           let A = rw g at G.answer in
           let N = A.1.1.node in
-          let here : entry_of ev₁ r ≡ Local vs ps₁ u = ap (λ v. entry_of v r) p ∙ entry_here ev r (Local vs ps₁ u) R.there in
+          let here : entry_of ev₁ r ≡ local_entry vs ps₁ u = ap (λ v. entry_of v r) p ∙ entry_here ev r (local_entry vs ps₁ u) R.there in
           let F : Fine ns (scheme_of_word ns w₁ vs ps₁ u) = of_done (λ c. Fine ns c) Limit _ _ l₁ (apply_fine (sub_at ns w at k) (scheme_of_word ns w vs ps t) left held.fine) A.0 in
           record {
             stands = G.stands;
-            wide = ap length p ∙ entry_long ev r (Local vs ps₁ u);
+            wide = ap length p ∙ entry_long ev r (local_entry vs ps₁ u);
             answer = record {
               table = N.table;
               more = A.1.1.more;
               spent = A.1.1.spent;
               down = A.1.1.down;
               entry = rw here (record { vars = node_more N.table A.1.1.more held.vars; preds = A.1.0; type = N; fine = F });
-              others = λ j h. ap (λ v. entry_of v j) p ∙ entry_other ev r (Local vs ps₁ u) j h;
+              others = λ j h. ap (λ v. entry_of v j) p ∙ entry_other ev r (local_entry vs ps₁ u) j h;
               is = rw here (then_done _ l₁ then_some A.0);
             };
           }

@@ -1,2 +1,3 @@
+pub mod Swept
 pub mod Scope
 pub mod Sweeps

@@ -15,11 +15,19 @@ use Rattle.scope.specs.declared.Entry.TheVariants.{Nothing, Closed, Local}
 
 -- ## Rows
 
+-- The entry of a scheme without free variables, by its three words.
+abbrev pub closed_entry : ℕ → ℕ → ℕ → Entry
+closed_entry vs ps t = Closed (record { vars = vs; preds = ps; ty = t })
+
+-- The entry of any other scheme.
+abbrev pub local_entry : ℕ → ℕ → ℕ → Entry
+local_entry vs ps t = Local (record { vars = vs; preds = ps; ty = t })
+
 -- What a row's words say: state 0 nothing, 1 a scheme without free variables, any other a scheme.
 abbrev pub entry : ℕ → ℕ → ℕ → ℕ → Entry
 entry zero vs ps t = Nothing
-entry (suc zero) vs ps t = Closed vs ps t
-entry (suc (suc s)) vs ps t = Local vs ps t
+entry (suc zero) vs ps t = closed_entry vs ps t
+entry (suc (suc s)) vs ps t = local_entry vs ps t
 
 -- The row of name number r.
 unfoldable pub entry_of : List ℕ → ℕ → Entry
@@ -32,16 +40,16 @@ written ev r s vs ps t = set (set (set (set ev (4 * r) s) (4 * r + 1) vs) (4 * r
 -- ev with an entry as row r.
 abbrev pub with_entry : List ℕ → ℕ → Entry → List ℕ
 with_entry ev r Nothing = written ev r 0 0 0 0
-with_entry ev r (Closed vs ps t) = written ev r 1 vs ps t
-with_entry ev r (Local vs ps t) = written ev r 2 vs ps t
+with_entry ev r (Closed s) = written ev r 1 s.vars s.preds s.ty
+with_entry ev r (Local s) = written ev r 2 s.vars s.preds s.ty
 
 -- ## What they stand for, under the names ns and over the words w
 
 -- The scheme of an entry.
 abbrev pub scheme_in : List ℕ → List ℕ → Entry → Option Scheme
 scheme_in ns w Nothing = none
-scheme_in ns w (Closed vs ps t) = some (scheme_of_word ns w vs ps t)
-scheme_in ns w (Local vs ps t) = some (scheme_of_word ns w vs ps t)
+scheme_in ns w (Closed s) = some (scheme_of_word ns w s.vars s.preds s.ty)
+scheme_in ns w (Local s) = some (scheme_of_word ns w s.vars s.preds s.ty)
 
 -- A name with its scheme, if it has one, before others.
 abbrev pub with_scheme : Name → Option Scheme → Env → Env
@@ -102,8 +110,8 @@ pub record HeldClosed (ns w : List ℕ) (top vs ps t : ℕ) : Type 0 where
 -- What always holds of an entry.
 abbrev pub EntryIn : List ℕ → List ℕ → ℕ → Entry → Type 0
 EntryIn ns w top Nothing = Unit {0}
-EntryIn ns w top (Closed vs ps t) = HeldClosed ns w top vs ps t
-EntryIn ns w top (Local vs ps t) = Held ns w top vs ps t
+EntryIn ns w top (Closed s) = HeldClosed ns w top s.vars s.preds s.ty
+EntryIn ns w top (Local s) = Held ns w top s.vars s.preds s.ty
 
 -- The names of od have a row each, and what always holds of an entry holds of each row.
 pub record Scope (ns w ev od : List ℕ) (top : ℕ) : Type 0 where

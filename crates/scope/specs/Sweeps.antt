@@ -10,8 +10,8 @@ use Rattle.ast.specs.Table.{Table}
 use Rattle.errors.specs.Refusals.{Refuses}
 use Rattle.pairs.specs.Pairs.{Sub, Stands}
 use Rattle.scope.specs.Scope.{entry_of, scheme_in, env_of, EntryIn, Scope}
-use Rattle.scope.specs.declared.Swept.{Swept}
-use Rattle.scope.specs.declared.Swept.TheVariants.{Done, Refused}
+use Rattle.scope.specs.Swept.{Swept}
+use Rattle.scope.specs.Swept.{Done, Refused}
 
 -- ## One row
 

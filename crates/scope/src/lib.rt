@@ -13,24 +13,33 @@ ghost use Rattle.subst.specs.Preds.{preds_of_word};
 ghost use Rattle.subst.specs.Schemes.{scheme_of_word};
 ghost use Rattle.scope.specs.Scope.{entry_of, written, with_entry, scheme_in, env_of, EntryIn, Scope};
 ghost use Rattle.scope.specs.Sweeps.{ReadyRow, applied, GivesRow, ReadyEnv, GivesEnv, ftv_in};
+ghost use Rattle.scope.specs.Swept.{swept_of};
 
-use ast::Cell;
+use ast::{Base, Cell, Room};
 use errors::Refusal;
-use subst::AppliedQual;
+use pairs::Subst;
+use subst::Scheme;
 
-// A row: no scheme, one without free variables, or any other; its variables, its predicates and its type.
+// The environment: a row for each name, and the names' numbers in byte order.
+#[derive(Clone, Copy)]
+pub struct Env<'a> {
+    pub rows: &'a [u64],
+    pub order: &'a [u64],
+}
+
+// The numbers of the next type variable and of the next dictionary.
+#[derive(Clone, Copy)]
+pub struct Fresh {
+    pub tv: usize,
+    pub dv: usize,
+}
+
+// A row: no scheme, one without free variables, or any other: three cases, and so no Option.
 #[derive(Clone, Copy)]
 pub enum Entry {
     Nothing,
-    Closed(usize, usize, usize),
-    Local(usize, usize, usize),
-}
-
-// The first free node and the steps left; or a refusal with both.
-#[derive(Clone, Copy)]
-pub enum Swept {
-    Done(usize, usize),
-    Refused(Refusal, usize, usize),
+    Closed(Scheme),
+    Local(Scheme),
 }
 
 // The row of name number r: all reading of a row's words.
@@ -40,28 +49,30 @@ pub fn row_at(env: &[u64], r: usize) -> Entry
 {
     let i = 4 * r;
     let s = env[i];
-    let vs = env[i + 1] as usize;
-    let ps = env[i + 2] as usize;
-    let t = env[i + 3] as usize;
+    let scheme = Scheme {
+        vars: env[i + 1] as usize,
+        preds: env[i + 2] as usize,
+        ty: env[i + 3] as usize,
+    };
     if s == 0 {
         return Entry::Nothing;
     }
     if s == 1 {
-        return Entry::Closed(vs, ps, t);
+        return Entry::Closed(scheme);
     }
-    Entry::Local(vs, ps, t)
+    Entry::Local(scheme)
 }
 
-// Writes four words as row r.
-fn write(env: &mut [u64], r: usize, s: u64, vs: usize, ps: usize, t: usize)
+// Writes a state and a scheme as row r.
+fn write(env: &mut [u64], r: usize, s: u64, scheme: Scheme)
     requires { 4 * r + 4 ≤ length env.old }
-    ensures { env.new ≡ written env.old r s vs ps t }
+    ensures { env.new ≡ written env.old r s scheme.vars scheme.preds scheme.ty }
 {
     let i = 4 * r;
     env[i] = s;
-    env[i + 1] = vs as u64;
-    env[i + 2] = ps as u64;
-    env[i + 3] = t as u64;
+    env[i + 1] = scheme.vars as u64;
+    env[i + 2] = scheme.preds as u64;
+    env[i + 3] = scheme.ty as u64;
 }
 
 // Writes an entry as the row of name number r.
@@ -70,174 +81,134 @@ pub fn put(env: &mut [u64], r: usize, e: Entry)
     ensures { env.new ≡ with_entry env.old r e }
 {
     match e {
-        Entry::Nothing => write(env, r, 0, 0, 0, 0),
-        Entry::Closed(vs, ps, t) => write(env, r, 1, vs, ps, t),
-        Entry::Local(vs, ps, t) => write(env, r, 2, vs, ps, t),
+        Entry::Nothing => write(
+            env,
+            r,
+            0,
+            Scheme {
+                vars: 0,
+                preds: 0,
+                ty: 0,
+            },
+        ),
+        Entry::Closed(scheme) => write(env, r, 1, scheme),
+        Entry::Local(scheme) => write(env, r, 2, scheme),
     }
 }
 
-// The k pairs from at applied to the scheme of row r; one that is known to be closed stays, for no step.
+// The pairs applied to the scheme of row r; one that is known to be closed stays, for no step.
 fn apply_row(
-    base: &[u64],
+    base: Base,
     work: &mut [u64],
-    names: &[u64],
+    room: &mut Room,
     env: &mut [u64],
-    top: usize,
-    left: usize,
-    at: usize,
-    k: usize,
+    sub: Subst,
     r: usize,
-) -> Swept
-    requires base_len_bound { length base.now ≤ 4 * top }
-    requires ready_row { ReadyRow names.now (base.now ++ work.old) env.old top left at k r }
-    ensures { GivesRow names.now (base.now ++ work.old) (base.now ++ work.new) env.old env.new top left r
-        (applied (sub_at names.now (base.now ++ work.old) at k) (scheme_in names.now (base.now ++ work.old) (entry_of env.old r)) left) result }
+) -> Result<(), Refusal>
+    requires base_len_bound { length base.words.now ≤ 4 * room.old.top }
+    requires ready_row { ReadyRow base.names.now (base.words.now ++ work.old) env.old room.old.top room.old.left sub.at sub.k r }
+    ensures { GivesRow base.entry.names.now (base.entry.words.now ++ work.old) (base.entry.words.now ++ work.new) env.old env.new room.old.top room.old.left r
+        (applied (sub_at base.entry.names.now (base.entry.words.now ++ work.old) sub.at sub.k) (scheme_in base.entry.names.now (base.entry.words.now ++ work.old) (entry_of env.old r)) room.old.left) (swept_of result room.new.top room.new.left) }
 {
     let e = row_at(env, r);
     match e {
-        Entry::Nothing => Swept::Done(top, left),
-        Entry::Closed(_, _, _) => Swept::Done(top, left),
-        Entry::Local(vs, ps, t) => {
-            let q = subst::apply_scheme(base, work, names, top, left, at, k, vs, ps, t);
-            match q {
-                AppliedQual::Done(ps2, u, t2, l2) => {
-                    put(env, r, Entry::Local(vs, ps2, u));
-                    Swept::Done(t2, l2)
-                }
-                AppliedQual::Refused(x, t2, l2) => Swept::Refused(x, t2, l2),
-            }
+        Entry::Nothing => Ok(()),
+        Entry::Closed(_) => Ok(()),
+        Entry::Local(scheme) => {
+            let q = subst::apply_scheme(base, work, room, sub, scheme)?;
+            put(
+                env,
+                r,
+                Entry::Local(Scheme {
+                    vars: scheme.vars,
+                    preds: q.preds,
+                    ty: q.ty,
+                }),
+            );
+            Ok(())
         }
     }
 }
 
-// `apply_env`: the k pairs from at applied to each scheme, in byte order of the names.
+// `apply_env`: the pairs applied to each scheme, in byte order of the names.
 pub fn apply_env(
-    base: &[u64],
+    base: Base,
     work: &mut [u64],
-    names: &[u64],
+    room: &mut Room,
     env: &mut [u64],
     order: &[u64],
-    top: usize,
-    left: usize,
-    at: usize,
-    k: usize,
-) -> Swept
-    requires base_len_bound { length base.now ≤ 4 * top }
-    requires ready_env { ReadyEnv names.now (base.now ++ work.old) env.old order.now top left at k }
-    ensures { GivesEnv names.now (base.now ++ work.old) (base.now ++ work.new) env.old env.new order.now top left
-        (apply_schemes (sub_at names.now (base.now ++ work.old) at k) (env_of names.now (base.now ++ work.old) env.old order.now) left) result }
+    sub: Subst,
+) -> Result<(), Refusal>
+    requires base_len_bound { length base.words.now ≤ 4 * room.old.top }
+    requires ready_env { ReadyEnv base.names.now (base.words.now ++ work.old) env.old order.now room.old.top room.old.left sub.at sub.k }
+    ensures { GivesEnv base.entry.names.now (base.entry.words.now ++ work.old) (base.entry.words.now ++ work.new) env.old env.new order.now room.old.top room.old.left
+        (apply_schemes (sub_at base.entry.names.now (base.entry.words.now ++ work.old) sub.at sub.k) (env_of base.entry.names.now (base.entry.words.now ++ work.old) env.old order.now) room.old.left) (swept_of result room.new.top room.new.left) }
 {
-    let mut t = top;
-    let mut m = left;
-    let mut i: usize = 0;
-    while i < order.len() {
-        let r = order[i] as usize;
-        let q = apply_row(base, work, names, env, t, m, at, k, r);
-        match q {
-            Swept::Done(t2, m2) => {
-                t = t2;
-                m = m2;
-            }
-            Swept::Refused(e, t2, m2) => return Swept::Refused(e, t2, m2),
-        }
-        i += 1;
+    for r in order {
+        apply_row(base, work, room, env, sub, *r as usize)?;
     }
-    Swept::Done(t, m)
+    Ok(())
 }
 
 // Whether the variable of word x stands in the type of a predicate of the list ps.
-fn in_preds(base: &[u64], work: &[u64], names: &[u64], top: usize, ps: usize, x: usize) -> bool
-    requires names { Names names.now }
-    requires node { Node (base.now ++ work.now) top ps }
-    ensures { result ≡ elem tyvars (tyvar_of names.now x) (ftv_preds (preds_of_word names.now (base.now ++ work.now) ps) []) }
+fn in_preds(base: Base, work: &[u64], top: usize, ps: usize, x: usize) -> bool
+    requires names { Names base.names.now }
+    requires node { Node (base.words.now ++ work.now) top ps }
+    ensures { result ≡ elem tyvars (tyvar_of base.entry.names.now x) (ftv_preds (preds_of_word base.entry.names.now (base.entry.words.now ++ work.now) ps) []) }
 {
+    // No heap: the list is cells of the table, which no iterator walks.
     let mut l = ps;
-    loop {
-        let c = ast::cell_at(base, work, l);
-        match c {
-            Cell::Nil => {
-                return false;
-            }
-            Cell::Cons(a, b) => {
-                if ast::occurs_in(base, work, names, top, x, a) {
-                    return true;
-                }
-                l = b;
-            }
+    while let Cell::Cons(a, b) = ast::cell_at(base, work, l) {
+        if ast::occurs_in(base, work, top, x, a) {
+            return true;
         }
+        l = b;
     }
+    false
 }
 
-// Whether the variable of word x is free in the scheme of the variables vs over predicates and a type.
-fn in_scheme(
-    base: &[u64],
-    work: &[u64],
-    names: &[u64],
-    top: usize,
-    vs: usize,
-    ps: usize,
-    t: usize,
-    x: usize,
-) -> bool
-    requires names { Names names.now }
-    requires node { Node (base.now ++ work.now) top vs }
-    requires node_2 { Node (base.now ++ work.now) top ps }
-    requires node_3 { Node (base.now ++ work.now) top t }
-    ensures { result ≡ elem tyvars (tyvar_of names.now x) (ftv_scheme (scheme_of_word names.now (base.now ++ work.now) vs ps t)) }
+// Whether the variable of word x is free in a scheme.
+fn in_scheme(base: Base, work: &[u64], top: usize, scheme: Scheme, x: usize) -> bool
+    requires names { Names base.names.now }
+    requires node { Node (base.words.now ++ work.now) top scheme.vars }
+    requires node_2 { Node (base.words.now ++ work.now) top scheme.preds }
+    requires node_3 { Node (base.words.now ++ work.now) top scheme.ty }
+    ensures { result ≡ elem tyvars (tyvar_of base.entry.names.now x) (ftv_scheme (scheme_of_word base.entry.names.now (base.entry.words.now ++ work.now) scheme.vars scheme.preds scheme.ty)) }
 {
-    if vars::has_var(base, work, names, top, vs, x) {
+    if vars::has_var(base, work, top, scheme.vars, x) {
         return false;
     }
-    if ast::occurs_in(base, work, names, top, x, t) {
+    if ast::occurs_in(base, work, top, x, scheme.ty) {
         return true;
     }
-    in_preds(base, work, names, top, ps, x)
+    in_preds(base, work, top, scheme.preds, x)
 }
 
 // Whether the variable of word x is free in the scheme of row r.
-fn in_row(
-    base: &[u64],
-    work: &[u64],
-    names: &[u64],
-    env: &[u64],
-    top: usize,
-    r: usize,
-    x: usize,
-) -> bool
-    requires names { Names names.now }
+fn in_row(base: Base, work: &[u64], env: &[u64], top: usize, r: usize, x: usize) -> bool
+    requires names { Names base.names.now }
     requires r_in_bounds { 4 * r + 4 ≤ length env.now }
-    requires entry_in { EntryIn names.now (base.now ++ work.now) top (entry_of env.now r) }
-    ensures { result ≡ elem tyvars (tyvar_of names.now x) (ftv_in (scheme_in names.now (base.now ++ work.now) (entry_of env.now r))) }
+    requires entry_in { EntryIn base.names.now (base.words.now ++ work.now) top (entry_of env.now r) }
+    ensures { result ≡ elem tyvars (tyvar_of base.entry.names.now x) (ftv_in (scheme_in base.entry.names.now (base.entry.words.now ++ work.now) (entry_of env.now r))) }
 {
     let e = row_at(env, r);
     match e {
         Entry::Nothing => false,
-        Entry::Closed(_, _, _) => false,
-        Entry::Local(vs, ps, t) => in_scheme(base, work, names, top, vs, ps, t, x),
+        Entry::Closed(_) => false,
+        Entry::Local(scheme) => in_scheme(base, work, top, scheme, x),
     }
 }
 
 // Whether the variable of word x is free in the environment: whether `env_ftv` has it.
-pub fn is_free(
-    base: &[u64],
-    work: &[u64],
-    names: &[u64],
-    env: &[u64],
-    order: &[u64],
-    top: usize,
-    x: usize,
-) -> bool
-    requires names { Names names.now }
-    requires scope { Scope names.now (base.now ++ work.now) env.now order.now top }
-    ensures { result ≡ elem tyvars (tyvar_of names.now x) (env_ftv (env_of names.now (base.now ++ work.now) env.now order.now)) }
+pub fn is_free(base: Base, work: &[u64], env: Env, top: usize, x: usize) -> bool
+    requires names { Names base.names.now }
+    requires scope { Scope base.names.now (base.words.now ++ work.now) env.rows.now env.order.now top }
+    ensures { result ≡ elem tyvars (tyvar_of base.entry.names.now x) (env_ftv (env_of base.entry.names.now (base.entry.words.now ++ work.now) env.entry.rows.now env.entry.order.now)) }
 {
-    let mut i: usize = 0;
-    while i < order.len() {
-        let r = order[i] as usize;
-        if in_row(base, work, names, env, top, r, x) {
+    for r in env.order {
+        if in_row(base, work, env.rows, top, *r as usize, x) {
             return true;
         }
-        i += 1;
     }
     false
 }

@@ -10,37 +10,34 @@ use Rattle.meaning.specs.Reader.{onward, from, items, counted, section}
 use Rattle.meaning.specs.File.{type_node, expr_node, decl_entry}
 use Rattle.theorems.proofs.Grown.{nth_below}
 use Rattle.errors.specs.declared.Refusal.{Refusal}
-use Rattle.reader.specs.declared.Place.{Place}
-use Rattle.reader.specs.declared.Place.TheVariants.{Next, Bad}
-use Rattle.reader.specs.declared.Count.TheVariants.{Is, Bad as Count-Bad}
+use Rattle.std.specs.Prelude.{Result, Ok, Err}
 use Rattle.reader.specs.Verdicts.{IsCount}
 use Rattle.reader.proofs.Sequence.{stops}
 use Rattle.nodes.specs.declared.Counts.{Counts}
 use Rattle.nodes.specs.Known.{Before, Known, Gives}
-use Rattle.nodes.proofs.Loops.{items_more, items_past}
+use Rattle.nodes.proofs.Loops.{items_more, items_past, one_less}
 use Rattle.sections.specs.declared.Part.{Part}
 use Rattle.sections.specs.declared.Part.TheVariants.{Types, Exprs, Decls}
-use Rattle.sections.specs.declared.Many.TheVariants.{Read as Many-Read, Bad as Many-Bad}
 use Rattle.reader.specs.Placing.{Placed}
 use Rattle.sections.specs.Parts.{PartOf, part_reader, base_of, limit_of, NodeGives, GivesItems, GivesSection}
 use Rattle.sections.proofs.Places.{count_snoc, placed_none, placed_more}
 
 -- ## one item, by the section that it is of
-pub node_type : (bytes ix : List ℕ) (n : Counts) (k : Part) (i at : ℕ) (r : Place) → k ≡ Types
-    → Gives (Known ix (record { names = n.names; types = i; exprs = n.exprs })) bytes (λ s. type_node s.names s.types) at r → NodeGives bytes ix n k i at r
+pub node_type : (bytes ix : List ℕ) (n : Counts) (k : Part) (i at : ℕ) (r : Result ℕ Refusal) → k ≡ Types
+    → Gives (Known ix (record { names = n.names; types = i; exprs = n.exprs; decls = n.decls })) bytes (λ s. type_node s.names s.types) at r → NodeGives bytes ix n k i at r
 node_type bytes ix n k i at r e g = subst (λ j. NodeGives bytes ix n j i at r) (sym e) (record {
   is = λ s xs h c.
       g.is (record { names = s.names; types = xs; exprs = s.exprs }) (record { sized = record { names = h.sized.names; types = c; exprs = h.sized.exprs }; forms = h.forms });
 })
 
-pub node_expr : (bytes ix : List ℕ) (n : Counts) (k : Part) (i at : ℕ) (r : Place) → k ≡ Exprs
-    → Gives (Known ix (record { names = n.names; types = n.types; exprs = i })) bytes (λ s. expr_node s.names s.exprs) at r → NodeGives bytes ix n k i at r
+pub node_expr : (bytes ix : List ℕ) (n : Counts) (k : Part) (i at : ℕ) (r : Result ℕ Refusal) → k ≡ Exprs
+    → Gives (Known ix (record { names = n.names; types = n.types; exprs = i; decls = n.decls })) bytes (λ s. expr_node s.names s.exprs) at r → NodeGives bytes ix n k i at r
 node_expr bytes ix n k i at r e g = subst (λ j. NodeGives bytes ix n j i at r) (sym e) (record {
   is = λ s xs h c.
       g.is (record { names = s.names; types = s.types; exprs = xs }) (record { sized = record { names = h.sized.names; types = h.sized.types; exprs = c }; forms = h.forms });
 })
 
-pub node_decl : (bytes ix : List ℕ) (n : Counts) (k : Part) (i at : ℕ) (r : Place) → k ≡ Decls
+pub node_decl : (bytes ix : List ℕ) (n : Counts) (k : Part) (i at : ℕ) (r : Result ℕ Refusal) → k ≡ Decls
     → Gives (Known ix n) bytes (λ s. decl_entry s.names s.types s.exprs) at r → NodeGives bytes ix n k i at r
 node_decl bytes ix n k i at r e g = subst (λ j. NodeGives bytes ix n j i at r) (sym e) (record { is = λ s xs h c. g.is s h })
 
@@ -92,9 +89,6 @@ limit_low Decls = omega arith
 pub in_index : (k : Part) (m i b : ℕ) → m ≤ limit_of k → i < m → b ≡ base_of k → b + i < 11_776
 in_index k m i b h l e = let x = limit_low k in omega arith
 
-less : (m i : ℕ) → m - i - 1 ≡ m - (i + 1)
-less m i = omega arith
-
 module _ (bytes ix₀ ix ix' : List ℕ) (n : Counts) (k : Part) (m at p i b : ℕ) (g : Going bytes ix₀ ix n k m at p i) (few : n.names ≤ 1_024) (l : i < m)
     (here : b ≡ base_of k) (put : ix' ≡ set ix (b + i) p) where
   -- The word of item i has been written: what lies elsewhere stands.
@@ -110,7 +104,7 @@ module _ (bytes ix₀ ix ix' : List ℕ) (n : Counts) (k : Part) (m at p i b : �
   known : (s : Before) → Known ix₀ n s → Known ix' n s
   known s h = known_on ix₀ ix' n s few (λ j q. low_on j (let y = base_high k in omega arith)) h
 
-  pub going_next : (q : ℕ) → m ≤ limit_of k → NodeGives bytes ix' n k i p (Next q) → Going bytes ix₀ ix' n k m at q (i + 1)
+  pub going_next : (q : ℕ) → m ≤ limit_of k → NodeGives bytes ix' n k i p (Ok q) → Going bytes ix₀ ix' n k m at q (i + 1)
   going_next q lim v = record { low = low_on; high = high_on; most = omega arith; long = ap (λ w. length w) put ∙ length-set ix (b + i) p ∙ g.long; is = λ s h. go s h (g.is s h) }
     where
       go : (s : Before) → Known ix₀ n s → (xs : List (PartOf k)) × (items (part_reader k s) m [] at (from at bytes) ≡ items (part_reader k s) (m - i) xs p (from p bytes))
@@ -119,7 +113,7 @@ module _ (bytes ix₀ ix ix' : List ℕ) (n : Counts) (k : Part) (m at p i b : �
           × (count xs ≡ i + 1) × (q ≤ length bytes) × Placed bytes ix' (base_of k) (part_reader k s) xs at q
       go s h o = let u = v.is s o.0 (known s h) o.2 in (
         o.0 ++ u.value ∷ [],
-        o.1 ∙ items_past bytes (part_reader k s) (m - i) o.0 p q (omega arith) u ∙ ap (λ j. items (part_reader k s) j (o.0 ++ u.value ∷ []) q (from q bytes)) (less m i),
+        o.1 ∙ items_past bytes (part_reader k s) (m - i) o.0 p q (omega arith) u ∙ ap (λ j. items (part_reader k s) j (o.0 ++ u.value ∷ []) q (from q bytes)) (one_less m i),
         count_snoc o.0 u.value ∙ (let c = o.2 in omega arith),
         u.within,
         placed_more bytes ix ix' (base_of k) (part_reader k s) o.0 u.value at p q o.4
@@ -128,7 +122,7 @@ module _ (bytes ix₀ ix ix' : List ℕ) (n : Counts) (k : Part) (m at p i b : �
             u.is,
       )
 
-  pub going_bad : (e : Refusal) → NodeGives bytes ix' n k i p (Bad e) → GivesItems bytes ix₀ ix' n k m at (Bad e)
+  pub going_bad : (e : Refusal) → NodeGives bytes ix' n k i p (Err e) → GivesItems bytes ix₀ ix' n k m at (Err e)
   going_bad e v = record {
     low = low_on;
     high = high_on;
@@ -136,7 +130,7 @@ module _ (bytes ix₀ ix ix' : List ℕ) (n : Counts) (k : Part) (m at p i b : �
         o.1 ∙ items_more (part_reader k s) (m - i) o.0 p (from p bytes) (omega arith) ∙ stops (part_reader k s o.0 p (from p bytes)) _ _ (v.is s o.0 (known s h) o.2);
   }
 
-pub going_last : (bytes ix₀ ix : List ℕ) (n : Counts) (k : Part) (m at p i : ℕ) → Going bytes ix₀ ix n k m at p i → m ≤ i → GivesItems bytes ix₀ ix n k m at (Next p)
+pub going_last : (bytes ix₀ ix : List ℕ) (n : Counts) (k : Part) (m at p i : ℕ) → Going bytes ix₀ ix n k m at p i → m ≤ i → GivesItems bytes ix₀ ix n k m at (Ok p)
 unfolding items
 going_last bytes ix₀ ix n k m at p i g h = record {
   low = g.low;
@@ -149,8 +143,8 @@ going_last bytes ix₀ ix n k m at p i g h = record {
     none m i h = omega arith
 
 -- ## a section
-module _ (bytes ix ix' : List ℕ) (n : Counts) (k : Part) (at m : ℕ) (c : IsCount (limit_of k) bytes at (Is m)) where
-  pub section_read : (p : ℕ) → GivesItems bytes ix ix' n k m (at + 2) (Next p) → GivesSection bytes ix ix' n k at (Many-Read m p)
+module _ (bytes ix ix' : List ℕ) (n : Counts) (k : Part) (at m : ℕ) (c : IsCount (limit_of k) bytes at (Ok m)) where
+  pub section_read : (p : ℕ) → GivesItems bytes ix ix' n k m (at + 2) (Ok p) → GivesSection bytes ix ix' n k at (Ok (record { count = m; end = p }))
   unfolding section onward
   section_read p g = record {
     low = g.low;
@@ -159,7 +153,7 @@ module _ (bytes ix ix' : List ℕ) (n : Counts) (k : Part) (at m : ℕ) (c : IsC
         (o.0, ap (λ q. onward q (λ j. items (part_reader k s) j [])) c.is.0 ∙ o.1, o.2, c.is.1, o.3, o.4);
   }
 
-  pub section_stops : (e : Refusal) → GivesItems bytes ix ix' n k m (at + 2) (Bad e) → GivesSection bytes ix ix' n k at (Many-Bad e)
+  pub section_stops : (e : Refusal) → GivesItems bytes ix ix' n k m (at + 2) (Err e) → GivesSection bytes ix ix' n k at (Err e)
   unfolding section onward
   section_stops e g = record {
     low = g.low;
@@ -168,6 +162,6 @@ module _ (bytes ix ix' : List ℕ) (n : Counts) (k : Part) (at m : ℕ) (c : IsC
         ap (λ q. onward q (λ j. items (part_reader k s) j [])) c.is.0 ∙ g.is s h;
   }
 
-pub section_bad : (bytes ix : List ℕ) (n : Counts) (k : Part) (at : ℕ) (e : Refusal) → IsCount (limit_of k) bytes at (Count-Bad e) → GivesSection bytes ix ix n k at (Many-Bad e)
+pub section_bad : (bytes ix : List ℕ) (n : Counts) (k : Part) (at : ℕ) (e : Refusal) → IsCount (limit_of k) bytes at (Err e) → GivesSection bytes ix ix n k at (Err e)
 unfolding section
 section_bad bytes ix n k at e c = record { low = λ j h. refl; high = λ j h. refl; is = λ s h. stops (counted (limit_of k) at (from at bytes)) _ _ c.is }

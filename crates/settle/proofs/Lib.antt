@@ -10,3 +10,4 @@ pub mod Parts
 pub mod Course
 pub mod Settling
 pub mod Uses
+pub mod Seen

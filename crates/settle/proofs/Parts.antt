@@ -12,15 +12,15 @@ use Rattle.ast.specs.Table.{Table}
 use Rattle.ast.proofs.Laws.{node_more}
 use Rattle.errors.specs.declared.Refusal.{Refusal}
 use Rattle.pairs.proofs.Frames.{stands_then, stands_up}
-use Rattle.apply.specs.declared.Applied.{Applied}
-use Rattle.apply.specs.declared.Applied.TheVariants.{Done, Refused}
+use Rattle.apply.specs.Applied.{Applied}
+use Rattle.apply.specs.Applied.{Done, Refused}
 use Rattle.cores.specs.Terms.{core}
 use Rattle.supers.specs.Rows.{row_at, TypeIn, HasWord}
 use Rattle.supers.specs.declared.rows.Row.{Row}
 use Rattle.supers.specs.declared.rows.Row.TheVariants.{Pending, Replaced}
 use Rattle.simplify.specs.Simplified.{ReadySimplify, Simplifies, GivesSimplified, RowLeft, RowMade}
-use Rattle.simplify.specs.declared.Simplified.{Simplified}
-use Rattle.simplify.specs.declared.Simplified.TheVariants.{Done as Simplified-Done, Refused as Simplified-Refused}
+use Rattle.simplify.specs.Simplified.{Simplified}
+use Rattle.simplify.specs.Simplified.{Done as Simplified-Done, Refused as Simplified-Refused}
 use Rattle.terms.specs.Rows.{TermIn, ReadyTerm}
 use Rattle.terms.specs.Answers.{AnswerFor, GivesTerm}
 use Rattle.pending.specs.Owned.{ReadyOwn, Aliased, GivesAliased, GivesDeferred}

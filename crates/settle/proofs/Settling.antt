@@ -19,8 +19,8 @@ use Rattle.ast.proofs.Ranges.{cell_low}
 use Rattle.errors.specs.Refusals.{refusal_of, Refuses}
 use Rattle.errors.specs.declared.Refusal.{Refusal}
 use Rattle.pairs.proofs.Frames.{stands_then}
-use Rattle.apply.specs.declared.Applied.{Applied}
-use Rattle.apply.specs.declared.Applied.TheVariants.{Done, Refused}
+use Rattle.apply.specs.Applied.{Applied}
+use Rattle.apply.specs.Applied.{Done, Refused}
 use Rattle.scope.specs.Scope.{env_of}
 use Rattle.scope.proofs.Laws.{scope_kept, env_kept}
 use Rattle.cores.specs.Terms.{core}
@@ -33,15 +33,15 @@ use Rattle.supers.proofs.GivenLaws.{no_givens}
 use Rattle.supers.proofs.RowLaws.{kept_rows}
 use Rattle.resolve.specs.Resolves.{Declared}
 use Rattle.reduce.specs.Reduces.{preds_in, discharged_in, residuals_in, ReadyReduce, RowsDone, GivesReduced}
-use Rattle.reduce.specs.declared.Reduced.{Reduced}
-use Rattle.reduce.specs.declared.Reduced.TheVariants.{Done as Reduced-Done, Refused as Reduced-Refused}
+use Rattle.reduce.specs.Reduced.{Reduced}
+use Rattle.reduce.specs.Reduced.{Done as Reduced-Done, Refused as Reduced-Refused}
 use Rattle.terms.specs.Plain.{plain_in}
 use Rattle.terms.specs.Rows.{replaced_in}
 use Rattle.pending.specs.Rows.{PendingRow}
 use Rattle.pending.specs.Owned.{ReadyOwn}
 use Rattle.settle.specs.Settles.{settled}
 use Rattle.settle.specs.Answers.{GivesSorted, ReadyReplace, Simplifying, Replaces, Stops, Fails, GivesFrom, ReadySettle, Asked, settled_out, OwnRow, SettledIn, GivesSettled}
-use Rattle.settle.specs.declared.Settled.TheVariants.{Done as Settled-Done, Refused as Settled-Refused}
+use Rattle.settle.specs.Settled.{Done as Settled-Done, Refused as Settled-Refused}
 use Rattle.settle.proofs.Fine.{Fine, pending_type, fine_reduced, fine_aliased, fine_more, fine_left, fine_own, fine_pending, fine_type, fine_binders, fine_replacing}
 use Rattle.settle.proofs.Course.{settled_stops, rows_shift, Course, late_are, simplify_stops, walked}
 

@@ -13,8 +13,8 @@ use Rattle.ast.specs.Table.{tree, Node}
 use Rattle.errors.specs.Refusals.{Refuses}
 use Rattle.errors.specs.declared.Refusal.{Refusal}
 use Rattle.pairs.specs.Pairs.{Stands}
-use Rattle.apply.specs.declared.Applied.{Applied}
-use Rattle.apply.specs.declared.Applied.TheVariants.{Done, Refused}
+use Rattle.apply.specs.Applied.{Applied}
+use Rattle.apply.specs.Applied.{Done, Refused}
 use Rattle.scope.specs.Scope.{env_of, Scope}
 use Rattle.instances.specs.Accepted.{Heads}
 use Rattle.cores.specs.Terms.{core}
@@ -30,8 +30,8 @@ use Rattle.resolve.specs.Resolves.{Declared}
 use Rattle.pending.specs.Rows.{PendingRows}
 use Rattle.pending.specs.Owned.{GivesAliased, GivesDeferred}
 use Rattle.settle.specs.Settles.{settled}
-use Rattle.settle.specs.declared.Settled.{Settled}
-use Rattle.settle.specs.declared.Settled.TheVariants.{Done as Settled-Done, Refused as Settled-Refused}
+use Rattle.settle.specs.Settled.{Settled}
+use Rattle.settle.specs.Settled.{Done as Settled-Done, Refused as Settled-Refused}
 
 -- ## Rows after `reduce`: equal predicates, and those that are deferred
 

@@ -9,153 +9,117 @@ ghost use Rattle.ast.specs.Table.{tree};
 ghost use Rattle.scope.specs.Scope.{env_of};
 ghost use Rattle.pending.specs.Owned.{ReadyOwn};
 ghost use Rattle.settle.specs.Answers.{GivesSorted, ReadyReplace, GivesReplaced, GivesFrom, ReadySettle, GivesSettled};
+ghost use Rattle.apply.specs.Applied.{applied_of};
+ghost use Rattle.settle.specs.Settled.{settled_of};
 
-use apply::Applied;
-use errors::Refusal;
-use reduce::Reduced;
-use simplify::Simplified;
+use ast::{Base, Room};
+use errors::{DEPTH, Refusal};
+use resolve::Rules;
+use scope::Env;
 use supers::Root;
 
-// The term's word, how many rows are deferred, the first free node and the steps left; or a refusal with both.
+// A term, and how many rows are deferred.
 #[derive(Clone, Copy)]
-pub enum Settled {
-    Done(usize, usize, usize, usize),
-    Refused(Refusal, usize, usize),
+pub struct Rest {
+    pub term: usize,
+    pub deferred: usize,
 }
-
-// How deep a term may be.
-const DEPTH: usize = 256;
 
 // Of the first n rows those with equal predicates are replaced by the first, and those that are deferred come to the front.
 // Gives how many are deferred.
 fn sort_out(
-    base: &[u64],
+    base: Base,
     work: &[u64],
-    names: &[u64],
-    env: &[u64],
-    order: &[u64],
+    env: Env,
     binders: &mut [u64],
     top: usize,
     n: usize,
     t: usize,
 ) -> usize
-    requires { ReadyOwn names.now (base.now ++ work.now) env.now order.now binders.old top n t }
-    ensures { GivesSorted (ftv_type (tree names.now (base.now ++ work.now) t) [])
-        (env_ftv (env_of names.now (base.now ++ work.now) env.now order.now))
-        names.now (base.now ++ work.now) binders.old binders.new n result }
+    requires { ReadyOwn base.names.now (base.words.now ++ work.now) env.rows.now env.order.now binders.old top n t }
+    ensures { GivesSorted (ftv_type (tree base.entry.names.now (base.entry.words.now ++ work.now) t) [])
+        (env_ftv (env_of base.entry.names.now (base.entry.words.now ++ work.now) env.entry.rows.now env.entry.order.now))
+        base.entry.names.now (base.entry.words.now ++ work.now) binders.old binders.new n result }
 {
-    pending::own::alias_rows(base, work, names, env, order, binders, top, n, t);
-    pending::own::defer_rows(base, work, names, env, order, binders, top, n, t)
+    pending::own::alias_rows(base, work, env, binders, top, n, t);
+    pending::own::defer_rows(base, work, env, binders, top, n, t)
 }
 
 // The first n rows are simplified, and then all that were replaced replace names in the term e.
 fn replace(
-    base: &[u64],
+    base: Base,
     work: &mut [u64],
-    names: &[u64],
+    room: &mut Room,
     classes: &[u64],
     binders: &mut [u64],
-    top: usize,
-    left: usize,
     sp: usize,
     n: usize,
     e: usize,
-) -> Applied
-    requires base_len_bound { length base.now ≤ 4 * top }
-    requires ready_replace { ReadyReplace names.now (base.now ++ work.old) binders.old top left sp n e }
-    ensures { GivesReplaced names.now classes.now (base.now ++ work.old) (base.now ++ work.new)
-        binders.old binders.new top left sp n e result }
+) -> Result<usize, Refusal>
+    requires base_len_bound { length base.words.now ≤ 4 * room.old.top }
+    requires ready_replace { ReadyReplace base.names.now (base.words.now ++ work.old) binders.old room.old.top room.old.left sp n e }
+    ensures { GivesReplaced base.entry.names.now classes.now (base.entry.words.now ++ work.old) (base.entry.words.now ++ work.new)
+        binders.old binders.new room.old.top room.old.left sp n e (applied_of result room.new.top room.new.left) }
 {
-    let r = simplify::simplify_context(base, work, names, classes, binders, top, left, sp, n);
-    match r {
-        Simplified::Done(t2, l2) => terms::subst_core(base, work, binders, t2, l2, DEPTH, n, e),
-        Simplified::Refused(q, t2, l2) => Applied::Refused(q, t2, l2),
-    }
+    simplify::simplify_context(base, work, room, classes, binders, sp, n)?;
+    terms::subst_core(base, work, room, binders, DEPTH, n, e)
 }
 
 // The same of the rows from number nd up to number n.
 fn replace_from(
-    base: &[u64],
+    base: Base,
     work: &mut [u64],
-    names: &[u64],
+    room: &mut Room,
     classes: &[u64],
     binders: &mut [u64],
-    top: usize,
-    left: usize,
     sp: usize,
     nd: usize,
     n: usize,
     e: usize,
-) -> Applied
+) -> Result<usize, Refusal>
     requires nd_le_n { nd ≤ n }
     requires n_in_bounds { 3 * n ≤ length binders.old }
-    requires base_len_bound { length base.now ≤ 4 * top }
-    requires ready_replace { ReadyReplace names.now (base.now ++ work.old) binders.old top left sp n e }
-    ensures { GivesFrom names.now classes.now (base.now ++ work.old) (base.now ++ work.new)
-        binders.old binders.new top left sp nd n e result }
+    requires base_len_bound { length base.words.now ≤ 4 * room.old.top }
+    requires ready_replace { ReadyReplace base.names.now (base.words.now ++ work.old) binders.old room.old.top room.old.left sp n e }
+    ensures { GivesFrom base.entry.names.now classes.now (base.entry.words.now ++ work.old) (base.entry.words.now ++ work.new)
+        binders.old binders.new room.old.top room.old.left sp nd n e (applied_of result room.new.top room.new.left) }
 {
     let from = 3 * nd;
     let k = n - nd;
-    replace(
-        base,
-        work,
-        names,
-        classes,
-        &mut binders[from..],
-        top,
-        left,
-        sp,
-        k,
-        e,
-    )
+    replace(base, work, room, classes, &mut binders[from..], sp, k, e)
 }
 
 // The first n rows, all pending, are reduced; of those that stay the deferred ones come to the front, and the others are
 // simplified. The term e gets the dictionaries for the names that were replaced.
 pub fn settle(
-    base: &[u64],
+    base: Base,
     work: &mut [u64],
-    names: &[u64],
-    classes: &[u64],
-    insts: &[u64],
-    env: &[u64],
-    order: &[u64],
+    room: &mut Room,
+    rules: Rules,
+    env: Env,
     binders: &mut [u64],
-    top: usize,
-    left: usize,
     sp: usize,
     n: usize,
     t: usize,
     e: usize,
-) -> Settled
-    requires base_len_bound { length base.now ≤ 4 * top }
-    requires ready_settle { ReadySettle names.now (base.now ++ work.old) insts.now env.now order.now binders.old top left sp n t e }
-    ensures { GivesSettled names.now classes.now (base.now ++ work.old) (base.now ++ work.new)
-        insts.now env.now order.now binders.old binders.new top left sp n t e result }
+) -> Result<Rest, Refusal>
+    requires base_len_bound { length base.words.now ≤ 4 * room.old.top }
+    requires ready_settle { ReadySettle base.names.now (base.words.now ++ work.old) rules.insts.now env.rows.now env.order.now binders.old room.old.top room.old.left sp n t e }
+    ensures { GivesSettled base.entry.names.now rules.entry.classes.now (base.entry.words.now ++ work.old) (base.entry.words.now ++ work.new)
+        rules.entry.insts.now env.entry.rows.now env.entry.order.now binders.old binders.new room.old.top room.old.left sp n t e (settled_of result room.new.top room.new.left) }
 {
-    let r = reduce::reduce(
+    reduce::reduce(
         base,
         work,
-        names,
-        classes,
-        insts,
+        room,
+        rules,
         binders,
-        top,
-        left,
         sp,
         Root::Binder,
         ast::NIL,
         n,
-    );
-    match r {
-        Reduced::Done(t2, l2) => {
-            let nd = sort_out(base, work, names, env, order, binders, t2, n, t);
-            let f = replace_from(base, work, names, classes, binders, t2, l2, sp, nd, n, e);
-            match f {
-                Applied::Done(u, t3, l3) => Settled::Done(u, nd, t3, l3),
-                Applied::Refused(q, t3, l3) => Settled::Refused(q, t3, l3),
-            }
-        }
-        Reduced::Refused(q, t3, l3) => Settled::Refused(q, t3, l3),
-    }
+    )?;
+    let deferred = sort_out(base, work, env, binders, room.top, n, t);
+    let term = replace_from(base, work, room, rules.classes, binders, sp, deferred, n, e)?;
+    Ok(Rest { term, deferred })
 }

@@ -19,8 +19,8 @@ use Rattle.supers.specs.declared.rows.Row.TheVariants.{Pending, Replaced}
 use Rattle.supers.specs.ClassTable.{Supers}
 use Rattle.supers.specs.Rows.{row_at, binders_from, binders_in}
 use Rattle.supers.proofs.RowLaws.{rows_end}
-use Rattle.simplify.specs.declared.Simplified.{Simplified}
-use Rattle.simplify.specs.declared.Simplified.TheVariants.{Done, Refused}
+use Rattle.simplify.specs.Simplified.{Simplified}
+use Rattle.simplify.specs.Simplified.{Done, Refused}
 use Rattle.simplify.specs.Simplified.{removed_row, removed_from, removed_in, RowLeft, RowMade, ReadySimplify, Turn, GivesSimplified}
 use Rattle.simplify.proofs.Turns.{left_same, made_same, binders_left, one_left}
 

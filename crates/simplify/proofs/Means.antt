@@ -8,7 +8,7 @@ use Rattle.theorems.proofs.Theorems.{simplify_promise}
 use Rattle.supers.specs.ClassTable.{Supers}
 use Rattle.supers.specs.Rows.{binders_in}
 use Rattle.simplify.specs.Simplified.{removed_in, GivesSimplified}
-use Rattle.simplify.specs.declared.Simplified.TheVariants.{Done}
+use Rattle.simplify.specs.Simplified.{Done}
 
 pub simplify_means : (ns cl w w' bs bs' : List ℕ) (top left sp n : ℕ) (ce : ClassEnv) → Supers ns cl ce → (top' left' : ℕ)
     → GivesSimplified ns cl w w' bs bs' top left sp n (Done top' left') → Plain.Simplified ce (binders_in ns w bs 0 n) (binders_in ns w' bs' 0 n, removed_in ns w' bs bs' n)

@@ -22,12 +22,12 @@ use Rattle.cores.specs.Terms.{core}
 use Rattle.supers.specs.declared.rows.Row.{Row}
 use Rattle.supers.specs.declared.rows.Row.TheVariants.{Pending, Replaced}
 use Rattle.supers.specs.declared.Source.TheVariants.{Rows}
-use Rattle.supers.specs.declared.Searched.{Searched}
-use Rattle.supers.specs.declared.Searched.TheVariants.{Found, Nothing, Refused}
+use Rattle.supers.specs.Searched.{Searched}
+use Rattle.supers.specs.Searched.{Found, Nothing, Refused}
 use Rattle.supers.specs.Rows.{mark, row_at, with_row, binders_in, HasWord, TypeIn, Binders}
 use Rattle.supers.specs.Search.{ReadyIn, GivesFound}
 use Rattle.supers.proofs.RowLaws.{row_replaced, row_open, row_pending, row_passed, kept_rows}
-use Rattle.simplify.specs.declared.Simplified.TheVariants.{Done, Refused as Is-Refused}
+use Rattle.simplify.specs.Simplified.{Done, Refused as Is-Refused}
 use Rattle.simplify.specs.Simplified.{removed_row, RowLeft, RowMade, ReadySimplify, Turn}
 use Rattle.simplify.proofs.RowSets.{Words, row_words, set_others, same_rows, binders_split, binders_snoc}
 

@@ -1,11 +1,12 @@
 -- What `simplify_context` asks of binders in rows, and gives.
-use Rattle.std.specs.Prelude.{◌≡◌, List, [], ◌∷◌, ◌++◌, ℕ, zero, suc, ◌+◌, ◌*◌, ◌<◌, ◌≤◌, length, get_or}
+use Rattle.std.specs.Prelude.{◌≡◌, List, [], ◌∷◌, ◌++◌, ℕ, zero, suc, ◌+◌, ◌*◌, ◌<◌, ◌≤◌, length, get_or, Result, Ok, Err}
 use Rattle.meaning.specs.Ast.{dvar}
 use Rattle.meaning.specs.Budget.{done}
 use Rattle.meaning.specs.Classes.{ClassEnv}
 use Rattle.meaning.specs.Reduce.{Removed, simplify_from, simplify_context}
 use Rattle.names.specs.Names.{Names}
 use Rattle.ast.specs.Table.{Table, Node}
+use Rattle.errors.specs.declared.Refusal.{Refusal}
 use Rattle.errors.specs.Refusals.{Refuses}
 use Rattle.pairs.specs.Pairs.{Stands}
 use Rattle.cores.specs.Terms.{core}
@@ -13,8 +14,18 @@ use Rattle.supers.specs.declared.rows.Row.{Row}
 use Rattle.supers.specs.declared.rows.Row.TheVariants.{Pending, Replaced}
 use Rattle.supers.specs.ClassTable.{Supers}
 use Rattle.supers.specs.Rows.{row_at, binders_in, Binders}
-use Rattle.simplify.specs.declared.Simplified.{Simplified}
-use Rattle.simplify.specs.declared.Simplified.TheVariants.{Done, Refused}
+
+-- ## What it comes to
+
+-- What a function comes to: an answer or a refusal, each with what it leaves.
+pub data Simplified : Type 0 where
+  Done : ℕ → ℕ → Simplified
+  Refused : Refusal → ℕ → ℕ → Simplified
+
+-- What the code returned, with what it left.
+abbrev pub simplified_of : Result (Unit {0}) Refusal → ℕ → ℕ → Simplified
+simplified_of (Ok x) top left = Done top left
+simplified_of (Err e) top left = Refused e top left
 
 -- What a row that was pending and was then replaced says: its dictionary's name, and what replaces it.
 abbrev pub removed_row : List ℕ → List ℕ → Row → Row → List Removed

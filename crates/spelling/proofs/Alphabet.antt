@@ -1,74 +1,45 @@
 -- Which bytes are digits and letters of a name.
-use mathlib.Core.Path.{◌≡◌, refl}
+use mathlib.Core.Path.{◌≡◌, refl, sym, ap, ◌∙◌}
 use mathlib.Core.Bool.{Bool, true, false, not, ◌||◌}
-use Prim.Native.Nat.{ℕ, ◌<◌, ◌≤◌}
+use Prim.Native.Nat.{ℕ, ◌<◌}
 use native.Mathlib.Omega.{arith}
+use Rattle.std.proofs.Common.{nat_eq, nat_le, ◌&&◌}
+use Rattle.std.specs.Int.{is_in_range}
+use Rattle.std.specs.Char.{is_ascii_digit, is_ascii_alphanumeric}
 use Rattle.meaning.specs.Base.{ltb}
 use Rattle.meaning.specs.Reserved.{between, digit, letter_of_name}
-use Rattle.names.proofs.Tests.{lt_yes, lt_no, eq_yes, eq_no}
+use Rattle.names.proofs.Tests.{lt_yes, lt_no, eq_code}
+use borrow.Author.Tests.{le-leb, lt-leb}
+use native.Mathlib.Decide.{dec_lt}
 use Rattle.theorems.proofs.Tests.{ltb_false, eqb_true, or_cases}
 
--- A byte between two others.
-inside : (l h b : ℕ) → l ≤ b → b ≤ h → between l h b ≡ true
+-- A byte between two others, as a range has it.
+between_in_range : (l h b : ℕ) → is_in_range l h b ≡ between l h b
 unfolding between
-inside l h b p q = rw (lt_no b l p, lt_no h b q) refl
-
--- A byte below both.
-below : (l h b : ℕ) → b < l → between l h b ≡ false
-unfolding between
-below l h b p = rw (lt_yes b l p) refl
-
--- A byte above both.
-above : (l h b : ℕ) → h < b → between l h b ≡ false
-unfolding between
-above l h b p = rw (lt_yes h b p) (go (ltb b l))
+between_in_range l h b = rw (at_most l b, at_most b h) (go (ltb b l) (ltb h b))
   where
-    go : (x : Bool) → not (x || true) ≡ false
-    go true = refl
-    go false = refl
+    at_most : (m n : ℕ) → nat_le m n ≡ not (ltb n m)
+    at_most m n = elim (dec_lt n m) [ yes h ↦ lt-leb m n h ∙ ap not (sym (lt_yes n m h)) | no h ↦ le-leb m n (omega arith) ∙ ap not (sym (lt_no n m (omega arith))) ]
 
--- ## digits
-pub low_digit : (b : ℕ) → b < 48 → false ≡ digit b
+    go : (x y : Bool) → (not x && not y) ≡ not (x || y)
+    go true y = refl
+    go false y = refl
+
+-- A digit.
+pub same_digit : (b : ℕ) → is_ascii_digit b ≡ digit b
 unfolding digit
-low_digit b h = rw (below 48 57 b h) refl
+same_digit b = between_in_range 48 57 b
 
-pub high_digit : (b : ℕ) → 57 < b → false ≡ digit b
-unfolding digit
-high_digit b h = rw (above 48 57 b h) refl
-
-pub is_digit : (b : ℕ) → 48 ≤ b → b ≤ 57 → true ≡ digit b
-unfolding digit
-is_digit b g h = rw (inside 48 57 b g h) refl
-
--- ## letters
--- Below the capitals only digits are letters of a name.
-pub low_letter : (b : ℕ) (r : Bool) → b < 65 → r ≡ digit b → r ≡ letter_of_name b
-unfolding letter_of_name
-low_letter b r h e = rw (e, below 65 90 b h, below 97 122 b (omega arith), eq_no b 95 (λ i. omega arith)) (go (digit b))
-  where
-    go : (x : Bool) → x ≡ (x || false || false || false)
-    go true = refl
-    go false = refl
-
-pub capital : (b : ℕ) → 65 ≤ b → b ≤ 90 → true ≡ letter_of_name b
+-- A letter of a name is a letter, a digit or the underscore.
+letter_is : (b : ℕ) → letter_of_name b ≡ (is_ascii_alphanumeric b || nat_eq b 95)
 unfolding letter_of_name digit
-capital b g h = rw (above 48 57 b (omega arith), inside 65 90 b g h) refl
+letter_is b = rw (eq_code b 95, between_in_range 48 57 b, between_in_range 65 90 b, between_in_range 97 122 b) refl
 
-pub underscore : (b : ℕ) → b ≡ 95 → true ≡ letter_of_name b
-unfolding letter_of_name digit
-underscore b e = rw (above 48 57 b (omega arith), above 65 90 b (omega arith), below 97 122 b (omega arith), eq_yes b 95 e) refl
+pub alphanumeric : (b : ℕ) (r : Bool) → r ≡ is_ascii_alphanumeric b → r ≡ true → r ≡ letter_of_name b
+alphanumeric b r e h = rw (letter_is b, ← e, h) refl
 
-pub between_letters : (b : ℕ) → 90 < b → (b ≡ 95 → ⊥) → b < 97 → false ≡ letter_of_name b
-unfolding letter_of_name digit
-between_letters b g n h = rw (above 48 57 b (omega arith), above 65 90 b g, below 97 122 b h, eq_no b 95 n) refl
-
-pub past_letters : (b : ℕ) → 122 < b → false ≡ letter_of_name b
-unfolding letter_of_name digit
-past_letters b h = rw (above 48 57 b (omega arith), above 65 90 b (omega arith), above 97 122 b h, eq_no b 95 (λ i. omega arith)) refl
-
-pub small_letter : (b : ℕ) → 97 ≤ b → b ≤ 122 → true ≡ letter_of_name b
-unfolding letter_of_name digit
-small_letter b g h = rw (above 48 57 b (omega arith), above 65 90 b (omega arith), inside 97 122 b g h) refl
+pub other_letter : (b : ℕ) (r : Bool) → r ≡ is_ascii_alphanumeric b → r ≡ false → nat_eq b 95 ≡ letter_of_name b
+other_letter b r e h = rw (letter_is b, ← e, h) refl
 
 -- ## what a letter is
 -- A byte that fits in one, and is not zero.

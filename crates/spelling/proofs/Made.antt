@@ -1,6 +1,6 @@
 -- The forms of names by the forms of their texts.
 use mathlib.Core.Path.{◌≡◌, refl, sym, ap, ◌∙◌}
-use mathlib.Core.Bool.{Bool, true, false}
+use mathlib.Core.Bool.{Bool, true, false, ◌||◌}
 use mathlib.Core.List.{List, [], ◌∷◌}
 use mathlib.Core.Option.{none, some}
 use Prim.Native.Nat.{ℕ, ◌≤◌}
@@ -12,23 +12,20 @@ use Rattle.meaning.specs.Base.{if, eqb, null}
 use Rattle.meaning.specs.Text.{packed, quoted}
 use Rattle.meaning.specs.Ast.{name}
 use Rattle.meaning.specs.Reserved.{letter_of_name, all, past, digits, begins, made_variable, made_name}
-use Rattle.theorems.proofs.Tests.{eqb_true}
+use lib.Pointwise.{pointwise}
+use Rattle.std.proofs.Common.{nat_eq}
+use Rattle.std.specs.List.{starts_with}
+use Rattle.theorems.proofs.Tests.{eqb_true, or_left}
+use Rattle.spelling.proofs.Prefixes.{whole, front}
 use Rattle.spelling.specs.declared.Form.TheVariants.{Free, Variable, Word}
-use Rattle.reader.specs.Bytes.{text}
-use Rattle.spelling.specs.Texts.{bytes_of, follows, starts, word_text}
+use Rattle.spelling.specs.Texts.{follows, starts, word_text}
 use Rattle.spelling.specs.Forms.{FormIs}
 use Rattle.spelling.proofs.Spelled.{spelled}
-use Rattle.spelling.proofs.Texts.{text_length}
-use Rattle.spelling.proofs.Prefixes.{exact, not_exact}
 
 -- A text of letters, not longer than a name.
 pub record NameText (cs : List ℕ) : Type 0 where
   pub short : length cs ≤ 32
   pub letters : all letter_of_name cs ≡ true
-
--- A text of letters in a file.
-pub name_text : (bytes : List ℕ) (at len : ℕ) → len ≤ 32 → all letter_of_name (text bytes at len) ≡ true → NameText (text bytes at len)
-name_text bytes at len h e = record { short = rw (text_length bytes at len) h; letters = e }
 
 -- The beginning of a name is the beginning of its text.
 begins_text : {cs : List ℕ} → NameText cs → (s : String) (f : List ℕ → Bool) → begins s f (name (packed 32 cs)) ≡ follows (quoted s []) f cs
@@ -66,44 +63,26 @@ pub is_free : {cs : List ℕ} {r q : Bool} → NameText cs → r ≡ follows (11
 is_free {cs} {r} {q} t e h f i = record { variable = variable_text t ∙ sym e ∙ h; word = made_text t ∙ sym f ∙ i }
 
 -- ## texts like words
--- The beginnings as numbers.
-self_bytes : bytes_of 4 1718379891 ≡ quoted "self" []
-unfolding bytes_of quoted
-self_bytes = refl
+-- One test or another, where only as much is looked at as decides.
+pub first_of : (a b : Bool) {r v : Bool} → r ≡ a → r ≡ true → v ≡ r → v ≡ (a || b)
+first_of a b e h i = i ∙ h ∙ sym (or_left a b (sym e ∙ h))
 
-context_bytes : bytes_of 6 104970953383780 ≡ quoted "d_ctx_" []
-unfolding bytes_of quoted
-context_bytes = refl
+pub second_of : (a b : Bool) {r s v : Bool} → r ≡ a → r ≡ false → v ≡ s → s ≡ b → v ≡ (a || b)
+second_of a b e h i k = i ∙ k ∙ sym (go a (sym e ∙ h))
+  where
+    go : (x : Bool) → x ≡ false → (x || b) ≡ b
+    go x f = rw f refl
 
-super_bytes : bytes_of 8 6877671114629406559 ≡ quoted "__super_" []
-unfolding bytes_of quoted
-super_bytes = refl
+-- The first two tests, the first three, and all four, as the library makes them: `self`, `d` and digits, `d_ctx_`, `__super_`.
+abbrev pub two_tests : List ℕ → Bool
+two_tests cs = pointwise nat_eq cs (115 ∷ 101 ∷ 108 ∷ 102 ∷ []) || follows (100 ∷ []) digits cs
 
--- The text `self` has four bytes.
-pub is_self : (bytes : List ℕ) (at len : ℕ) (r : Bool) → len ≡ 4 → r ≡ starts (bytes_of 4 1718379891) (text bytes at len) → r ≡ follows (quoted "self" []) null (text bytes at len)
-unfolding quoted
-is_self bytes at len r h e = e ∙ ap (λ (bs : List ℕ). starts bs (text bytes at len)) self_bytes ∙ sym (exact (quoted "self" []) (text bytes at len) (text_length bytes at len ∙ h))
+abbrev pub three_tests : List ℕ → Bool
+three_tests cs = two_tests cs || starts_with nat_eq cs (100 ∷ 95 ∷ 99 ∷ 116 ∷ 120 ∷ 95 ∷ [])
 
-pub not_self : (bytes : List ℕ) (at len : ℕ) → (len ≡ 4 → ⊥) → false ≡ follows (quoted "self" []) null (text bytes at len)
-unfolding quoted
-not_self bytes at len h = sym (not_exact (quoted "self" []) (text bytes at len) (λ e. h (sym (text_length bytes at len) ∙ e)))
+abbrev pub four_tests : List ℕ → Bool
+four_tests cs = three_tests cs || starts_with nat_eq cs (95 ∷ 95 ∷ 115 ∷ 117 ∷ 112 ∷ 101 ∷ 114 ∷ 95 ∷ [])
 
--- The first test that holds.
-pub by_self : {a : Bool} (cs : List ℕ) → a ≡ follows (quoted "self" []) null cs → a ≡ true → true ≡ word_text cs
-unfolding word_text
-by_self cs e h = rw (← e, h) refl
-
-pub by_number : {a b : Bool} (cs : List ℕ) → a ≡ follows (quoted "self" []) null cs → a ≡ false → b ≡ follows (100 ∷ []) digits cs → b ≡ true → true ≡ word_text cs
+pub four_tests_word : (cs : List ℕ) → four_tests cs ≡ word_text cs
 unfolding word_text quoted
-by_number cs e h f i = rw (← e, h, ← f, i) refl
-
-pub by_context : {a b c : Bool} (cs : List ℕ) → a ≡ follows (quoted "self" []) null cs → a ≡ false → b ≡ follows (100 ∷ []) digits cs → b ≡ false
-    → c ≡ starts (bytes_of 6 104970953383780) cs → c ≡ true → true ≡ word_text cs
-unfolding word_text quoted
-by_context cs e h f i g j = rw (← e, h, ← f, i, ← context_bytes, ← g, j) refl
-
--- Else the last one decides.
-pub by_super : {a b c d : Bool} (cs : List ℕ) → a ≡ follows (quoted "self" []) null cs → a ≡ false → b ≡ follows (100 ∷ []) digits cs → b ≡ false
-    → c ≡ starts (bytes_of 6 104970953383780) cs → c ≡ false → d ≡ starts (bytes_of 8 6877671114629406559) cs → d ≡ word_text cs
-unfolding word_text quoted
-by_super cs e h f i g j k = rw (← e, h, ← f, i, ← context_bytes, ← g, j, ← super_bytes) k
+four_tests_word cs = rw (whole (115 ∷ 101 ∷ 108 ∷ 102 ∷ []) cs, front (100 ∷ 95 ∷ 99 ∷ 116 ∷ 120 ∷ 95 ∷ []) cs, front (95 ∷ 95 ∷ 115 ∷ 117 ∷ 112 ∷ 101 ∷ 114 ∷ 95 ∷ []) cs) refl

@@ -30,11 +30,6 @@ pub all_on : (f : ℕ → Bool) (c : ℕ) (cs : List ℕ) → f c ≡ true → a
 unfolding all any
 all_on f c cs e = rw e refl
 
--- One that does not.
-pub all_stops : (f : ℕ → Bool) (c : ℕ) (cs : List ℕ) → f c ≡ false → all f (c ∷ cs) ≡ false
-unfolding all any
-all_stops f c cs e = rw e refl
-
 -- ## unpacking
 -- A last byte of zero is dropped.
 drops : (f n : ℕ) (ds : List ℕ) → n % 256 ≡ 0 → unpacked (suc f) n ds ≡ unpacked f (n / 256) ds

@@ -1,5 +1,5 @@
 -- What the functions of this crate say of a text.
-use Rattle.std.specs.Prelude.{◌≡◌, Bool, true, false, List, ℕ, ◌<◌, get_or}
+use Rattle.std.specs.Prelude.{◌≡◌, Bool, true, false, List, ℕ}
 use Rattle.meaning.specs.Base.{eqb}
 use Rattle.meaning.specs.Text.{packed}
 use Rattle.meaning.specs.Ast.{Name}
@@ -8,11 +8,6 @@ use Rattle.names.specs.declared.Key.{Key}
 use Rattle.names.specs.Keys.{bytes_of}
 use Rattle.spelling.specs.declared.Form.{Form}
 use Rattle.spelling.specs.declared.Form.TheVariants.{Free, Variable, Word}
-
--- The byte at a place.
-pub record ByteAt (bytes : List ℕ) (at r : ℕ) : Type 0 where
-  pub read : r ≡ get_or bytes at 0
-  pub small : r < 256
 
 -- The words hold the bytes of a text, and zeros after them.
 pub record Packs (cs : List ℕ) (k : Key) : Type 0 where

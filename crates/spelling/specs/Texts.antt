@@ -1,14 +1,9 @@
--- The bytes of a short text as a number, and the reserved forms of texts.
-use Rattle.std.specs.Prelude.{Bool, true, false, ◌||◌, List, [], ◌∷◌, ℕ, suc, zero, ◌/◌, ◌%◌}
+-- The reserved forms of texts.
+use Rattle.std.specs.Prelude.{Bool, true, false, ◌||◌, List, [], ℕ}
 use Rattle.std.proofs.Math.Option.{none, some}
 use Rattle.meaning.specs.Base.{null}
 use Rattle.meaning.specs.Text.{quoted}
 use Rattle.meaning.specs.Reserved.{past, digits}
-
--- So many bytes of a number, the lowest first.
-unfoldable pub bytes_of : ℕ → ℕ → List ℕ
-bytes_of zero p = []
-bytes_of (suc m) p = p % 256 ∷ bytes_of m (p / 256)
 
 -- The text begins so, and what follows passes the test.
 unfoldable pub follows : List ℕ → (List ℕ → Bool) → List ℕ → Bool

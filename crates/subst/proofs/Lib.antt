@@ -1,5 +1,4 @@
 -- What the proofs of this crate and of callers use.
-pub mod Start
 pub mod PredLaws
 pub mod PredWays
 pub mod QualWays

@@ -16,8 +16,8 @@ use Rattle.ast.proofs.Laws.{cons_tail, node_more, node_room, kept_tree}
 use Rattle.errors.specs.declared.Refusal.{Refusal}
 use Rattle.pairs.specs.Pairs.{Stands}
 use Rattle.apply.specs.Region.{sub_but, ReadyBut, Answer, Gives}
-use Rattle.apply.specs.declared.Applied.{Applied}
-use Rattle.apply.specs.declared.Applied.TheVariants.{Done, Refused}
+use Rattle.apply.specs.Applied.{Applied}
+use Rattle.apply.specs.Applied.{Done, Refused}
 use Rattle.apply.proofs.Hand.{Then, then_done, refuse_on, within, gives, gave, fails, goes, adds, same_then}
 use Rattle.apply.proofs.Arms.{but_then, but_kept}
 use Rattle.apply.proofs.Ways.{Room}

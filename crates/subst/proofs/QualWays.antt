@@ -13,14 +13,14 @@ use Rattle.errors.specs.declared.Refusal.{Refusal}
 use Rattle.pairs.specs.Pairs.{Stands}
 use Rattle.pairs.proofs.Frames.{stands_then, stands_up}
 use Rattle.apply.specs.Region.{sub_but, ReadyBut, Gives}
-use Rattle.apply.specs.declared.Applied.{Applied}
-use Rattle.apply.specs.declared.Applied.TheVariants.{Done, Refused}
+use Rattle.apply.specs.Applied.{Applied}
+use Rattle.apply.specs.Applied.{Done, Refused}
 use Rattle.apply.proofs.Hand.{Then, is_then, same_then, then_done, refuse_on, gave, failed}
 use Rattle.apply.proofs.Arms.{ready_first, but_then, apply_kept}
 use Rattle.subst.specs.Preds.{preds_of_word}
 use Rattle.subst.specs.Quals.{GivesQual}
 use Rattle.subst.specs.Schemes.{ReadyScheme}
-use Rattle.subst.specs.declared.AppliedQual.TheVariants.{Done as Both, Refused as Neither}
+use Rattle.subst.specs.AppliedQual.{Done as Both, Refused as Neither}
 use Rattle.subst.proofs.PredLaws.{kept_preds}
 
 -- The predicates are first.

@@ -19,8 +19,8 @@ use Rattle.apply.proofs.Hand.{Then, then_done, refuse_on}
 use Rattle.subst.specs.Preds.{preds_of_word}
 use Rattle.subst.specs.Quals.{QualAnswer, GivesQual}
 use Rattle.subst.specs.Schemes.{scheme_of_word, ReadyScheme, SchemeAnswer, GivesScheme}
-use Rattle.subst.specs.declared.AppliedQual.{AppliedQual}
-use Rattle.subst.specs.declared.AppliedQual.TheVariants.{Done, Refused}
+use Rattle.subst.specs.AppliedQual.{AppliedQual}
+use Rattle.subst.specs.AppliedQual.{Done, Refused}
 use Rattle.subst.proofs.PredLaws.{preds_types}
 
 module _ {w : List ℕ} {top ps : ℕ} (ns : List ℕ) (N : Node w top ps) (vs t : ℕ) where

@@ -7,11 +7,11 @@ use Rattle.meaning.specs.Subst.{apply_pred, apply_preds, apply_qual}
 use Rattle.ast.proofs.Laws.{low_node}
 use Rattle.pairs.specs.Pairs.{sub_at}
 use Rattle.apply.specs.Region.{sub_but, Ready, Gives}
-use Rattle.apply.specs.declared.Applied.{Applied}
+use Rattle.apply.specs.Applied.{Applied}
 use Rattle.apply.proofs.Buts.{no_vars}
 use Rattle.subst.specs.Quals.{ReadyQual, GivesQual}
 use Rattle.subst.specs.Schemes.{ReadyScheme}
-use Rattle.subst.specs.declared.AppliedQual.{AppliedQual}
+use Rattle.subst.specs.AppliedQual.{AppliedQual}
 
 -- A word that names no node is no variables.
 pub ready_qual : {ns w : List ℕ} {top left at k ps t : ℕ} → ReadyQual ns w top left at k ps t → ReadyScheme ns w top left at k 0 ps t

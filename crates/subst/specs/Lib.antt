@@ -1,4 +1,4 @@
-pub mod Made
+pub mod AppliedQual
 pub mod Preds
 pub mod Quals
 pub mod Schemes

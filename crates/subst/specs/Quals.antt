@@ -7,8 +7,8 @@ use Rattle.errors.specs.Refusals.{Refuses}
 use Rattle.pairs.specs.Pairs.{Stands}
 use Rattle.apply.specs.Region.{Ready, Grown}
 use Rattle.subst.specs.Preds.{preds_of_word}
-use Rattle.subst.specs.declared.AppliedQual.{AppliedQual}
-use Rattle.subst.specs.declared.AppliedQual.TheVariants.{Done, Refused}
+use Rattle.subst.specs.AppliedQual.{AppliedQual}
+use Rattle.subst.specs.AppliedQual.{Done, Refused}
 
 -- A type t and predicates ps, and the k pairs from at, where the stack ends.
 pub record ReadyQual (ns w : List ℕ) (top left at k ps t : ℕ) : Type 0 where

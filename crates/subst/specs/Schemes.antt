@@ -11,8 +11,8 @@ use Rattle.pairs.specs.Pairs.{Stands}
 use Rattle.apply.specs.Region.{Grown}
 use Rattle.subst.specs.Preds.{preds_of_word}
 use Rattle.subst.specs.Quals.{ReadyQual}
-use Rattle.subst.specs.declared.AppliedQual.{AppliedQual}
-use Rattle.subst.specs.declared.AppliedQual.TheVariants.{Done, Refused}
+use Rattle.subst.specs.AppliedQual.{AppliedQual}
+use Rattle.subst.specs.AppliedQual.{Done, Refused}
 
 -- The scheme of a list of variables, a list of predicates and a type.
 abbrev pub scheme_of_word : List ℕ → List ℕ → ℕ → ℕ → ℕ → Scheme

@@ -1,5 +1,5 @@
 -- The loop of `build`: j projections have been made, along the first frames.
-use mathlib.Core.Path.{◌≡◌, refl, ap, sym, ◌∙◌}
+use mathlib.Core.Path.{◌≡◌, refl, ap, ◌∙◌}
 use mathlib.Core.List.{List, []}
 use Prim.Native.Nat.{ℕ, suc, ◌+◌, ◌*◌, ◌-◌, ◌<◌, ◌≤◌}
 use native.Mathlib.Omega.{arith}
@@ -14,7 +14,7 @@ use Rattle.pairs.proofs.Frames.{stands_refl, stands_then, stands_less}
 use Rattle.cores.specs.Parts.{pushed_four}
 use Rattle.cores.specs.Terms.{core}
 use Rattle.cores.proofs.NewTerm.{four-length, four_stands, push_super}
-use Rattle.supers.specs.Frames.{class_in, path_core, Built}
+use Rattle.supers.specs.Frames.{class_in, path_core}
 
 -- r is the dictionary of frame j.
 pub record Building (w₀ : List ℕ) (top sp d e : ℕ) (w : List ℕ) (r j : ℕ) : Type 0 where
@@ -53,10 +53,3 @@ building_on {w₀} {w} {w'} {top} {sp} {d} {e} {r} {j} {c} {s} B h room fits sma
         es ∙ ap (λ i. get_or w i 0) y ∙ B.stands.high (sp - 2 * suc (suc j)) (omega arith),
       );
     }
-
--- All have been made.
-pub built : {w₀ w : List ℕ} {top sp d e r j : ℕ} → Building w₀ top sp d e w r j → d ≤ j → Built w₀ w top sp d e r
-built {d = d} {j = j} B h =
-    let u = B.upto in
-    let z : j ≡ d = omega arith in
-    record { stands = B.stands; node = rw (sym z) B.node; is = rw (sym z) B.is }

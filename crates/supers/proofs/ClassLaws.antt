@@ -9,16 +9,16 @@ use lib.Dec.{ltb}
 use lib.ListN.{length, get_or}
 use borrow.Author.Tests.{lt-ltb, le-ltb}
 use Rattle.meaning.specs.Base.{if}
-use Rattle.pairs.specs.declared.Found.TheVariants.{At, Nothing}
 use Rattle.supers.specs.ClassTable.{declared_at, super_at, supers_f, supers_from}
+use Rattle.std.specs.Prelude.{Option, Some, None}
 
--- Nothing, whatever a test says.
-either : (b : Bool) → if b Nothing Nothing ≡ Nothing
+-- None, whatever a test says.
+either : (b : Bool) → ◌≡◌ {A = Option ℕ} (if b None None) None
 either true = refl
 either false = refl
 
 -- The same of two tests.
-either_two : (a b : Bool) → if a (if b Nothing Nothing) Nothing ≡ Nothing
+either_two : (a b : Bool) → ◌≡◌ {A = Option ℕ} (if a (if b None None) None) None
 either_two true b = either b
 either_two false b = refl
 
@@ -59,27 +59,27 @@ declared_row cl c e = go (dec_lt (2 * c + 1) (length cl)) (dec_lt (2 * c + 1) (g
 
 module _ (cl : List ℕ) (c i : ℕ) where
   -- The table has not the class.
-  pub none_class : declared_at cl c ≡ false → Nothing ≡ super_at cl c i
+  pub none_class : declared_at cl c ≡ false → None ≡ super_at cl c i
   unfolding super_at
   none_class h = rw h
 
   -- The class has not so many.
-  pub none_count : {k : ℕ} → k ≡ get_or cl (2 * c + 1) 0 → k ≤ i → Nothing ≡ super_at cl c i
+  pub none_count : {k : ℕ} → k ≡ get_or cl (2 * c + 1) 0 → k ≤ i → None ≡ super_at cl c i
   unfolding super_at
   none_count e h = sym (rw (le-ltb i (get_or cl (2 * c + 1) 0) (omega arith)) (either (declared_at cl c)))
 
   -- They would stand out of the table.
-  pub none_place : {p : ℕ} → p ≡ get_or cl (2 * c) 0 → length cl ≤ p + i → Nothing ≡ super_at cl c i
+  pub none_place : {p : ℕ} → p ≡ get_or cl (2 * c) 0 → length cl ≤ p + i → None ≡ super_at cl c i
   unfolding super_at
   none_place e h = sym (rw (le-ltb (get_or cl (2 * c) 0 + i) (length cl) (omega arith)) (either_two (declared_at cl c) (ltb i (get_or cl (2 * c + 1) 0))))
 
   -- Here it stands.
-  pub one_place : {p k : ℕ} → p ≡ get_or cl (2 * c) 0 → k ≡ get_or cl (2 * c + 1) 0 → declared_at cl c ≡ true → i < k → p + i < length cl → At (get_or cl (p + i) 0) ≡ super_at cl c i
+  pub one_place : {p k : ℕ} → p ≡ get_or cl (2 * c) 0 → k ≡ get_or cl (2 * c + 1) 0 → declared_at cl c ≡ true → i < k → p + i < length cl → Some (get_or cl (p + i) 0) ≡ super_at cl c i
   unfolding super_at
   one_place e f h g j = rw (h, lt-ltb i (get_or cl (2 * c + 1) 0) (omega arith), ← e, lt-ltb _ (length cl) j)
 
   -- A class has no more superclasses than the table has words.
-  pub at_inside : {s : ℕ} → super_at cl c i ≡ At s → i < length cl
+  pub at_inside : {s : ℕ} → super_at cl c i ≡ Some s → i < length cl
   at_inside {s} e = go (dec_lt i (length cl))
     where
       go : Dec (i < length cl) → i < length cl
@@ -87,7 +87,7 @@ module _ (cl : List ℕ) (c i : ℕ) where
       go (no h) = let n = none_place refl (omega arith) in let z : ◌≡◌ {A = ℕ} 0 1 = cc in absurd (omega arith)
 
   -- The i-th and those after it.
-  pub supers_next : {s : ℕ} → super_at cl c i ≡ At s → supers_from cl c i ≡ s ∷ supers_from cl c (suc i)
+  pub supers_next : {s : ℕ} → super_at cl c i ≡ Some s → supers_from cl c i ≡ s ∷ supers_from cl c (suc i)
   unfolding supers_f
   supers_next e =
       let h = at_inside e in
@@ -95,7 +95,7 @@ module _ (cl : List ℕ) (c i : ℕ) where
       rw (z, e)
 
   -- There are no more.
-  pub supers_end : super_at cl c i ≡ Nothing → supers_from cl c i ≡ []
+  pub supers_end : super_at cl c i ≡ None → supers_from cl c i ≡ []
   unfolding supers_f
   supers_end e = go (length cl - i)
     where

@@ -9,13 +9,12 @@ use lib.ListN.{length, get_or, set, length-set}
 use lib.Seq.{get_or-set_same, get_or-set_other}
 use Rattle.meaning.specs.Ast.{Core}
 use Rattle.pairs.specs.Pairs.{Stands}
-use Rattle.pairs.specs.declared.Found.{Found}
-use Rattle.pairs.specs.declared.Found.TheVariants.{At, Nothing}
 use Rattle.pairs.proofs.Frames.{stands_then, put_stands}
 use Rattle.supers.specs.declared.path.Entered.{Entered}
 use Rattle.supers.specs.declared.path.Entered.TheVariants.{Up, Deep, Spent, Hit, Miss}
 use Rattle.supers.specs.ClassTable.{super_at}
 use Rattle.supers.specs.Frames.{class_in, taken_in, framed, taken, path_core, EntersAs, Enters, TurnsAs}
+use Rattle.std.specs.Prelude.{Option, Some, None}
 
 -- A dictionary on the path is told by the classes up to it.
 pub path_classes : (w w' ns : List ℕ) (sp : ℕ) (e : Core) (j : ℕ) → ((k : ℕ) → k ≤ j → class_in w' sp k ≡ class_in w sp k) → path_core ns w' sp e j ≡ path_core ns w sp e j
@@ -108,7 +107,7 @@ unfolding framed
 framed_is w sp d s p q = let z : 2 * (d + 1) ≡ 2 * suc d = omega arith in q ∙ rw (p, z)
 
 -- The last of d frames, as the code reads it.
-module _ {d j : ℕ} (q : d ≡ suc j) (cl w : List ℕ) (sp : ℕ) {c i : ℕ} (ec : c ≡ get_or w (sp - 2 * d) 0) (ei : i ≡ get_or w (sp - 2 * d + 1) 0) {f : Found} (ef : f ≡ super_at cl c i) where
+module _ {d j : ℕ} (q : d ≡ suc j) (cl w : List ℕ) (sp : ℕ) {c i : ℕ} (ec : c ≡ get_or w (sp - 2 * d) 0) (ei : i ≡ get_or w (sp - 2 * d + 1) 0) {f : Option ℕ} (ef : f ≡ super_at cl c i) where
   -- Its class.
   read_class : c ≡ class_in w sp j
   unfolding class_in
@@ -123,12 +122,12 @@ module _ {d j : ℕ} (q : d ≡ suc j) (cl w : List ℕ) (sp : ℕ) {c i : ℕ} 
   read_next : super_at cl (class_in w sp j) (taken_in w sp j) ≡ f
   read_next = rw (← read_class, ← read_taken) (sym ef)
 
-  -- Nothing is.
-  pub turn_up : f ≡ Nothing → TurnsAs cl w w sp j 0 0 false Up
+  -- None is.
+  pub turn_up : f ≡ None → TurnsAs cl w w sp j 0 0 false Up
   turn_up h = (refl, read_next ∙ h)
 
   -- A superclass is.
-  pub turn_took : {w₁ w' : List ℕ} {left s goal : ℕ} {same : Bool} (r : Entered) → f ≡ At s → w₁ ≡ set w (sp - 2 * d + 1) (i + 1) → Enters w₁ w' sp d left s goal same false r → TurnsAs cl w w' sp j left goal same r
+  pub turn_took : {w₁ w' : List ℕ} {left s goal : ℕ} {same : Bool} (r : Entered) → f ≡ Some s → w₁ ≡ set w (sp - 2 * d + 1) (i + 1) → Enters w₁ w' sp d left s goal same false r → TurnsAs cl w w' sp j left goal same r
   unfolding taken
   turn_took {w₁} {w'} {left} {s} {goal} {same} r h p E = go r (subst (λ (v : List ℕ). EntersAs v w' sp (suc j) left s goal same false r) words (subst (λ (m : ℕ). EntersAs w₁ w' sp m left s goal same false r) q E.says))
     where

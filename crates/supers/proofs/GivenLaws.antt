@@ -1,6 +1,7 @@
 -- Laws of givens: the first of a list by its cell, the first of the rows, and that givens stand where their words do.
 use mathlib.Core.Path.{◌≡◌, refl, ap}
 use mathlib.Core.List.{List, []}
+use Rattle.std.specs.Prelude.{Option, Some, None}
 use Prim.Native.Nat.{ℕ, suc, ◌+◌, ◌*◌, ◌-◌, ◌/◌, ◌%◌, ◌^◌, ◌<◌, ◌≤◌}
 use native.Mathlib.Omega.{arith}
 use lib.ListN.{length}
@@ -22,7 +23,6 @@ use Rattle.supers.specs.declared.Root.TheVariants.{Context, Binder}
 use Rattle.supers.specs.declared.Source.{Source}
 use Rattle.supers.specs.declared.Source.TheVariants.{Listed, Rows}
 use Rattle.supers.specs.declared.Given.{Given}
-use Rattle.supers.specs.declared.Given.TheVariants.{One, Nothing}
 use Rattle.supers.specs.Rows.{Binders, NextIs, NextAs, NextRow}
 use Rattle.supers.specs.Givens.{givens_of, givens_in, ahead, Few, GivensReady, First, GivenAs, GivenAt, ListedAt}
 use Rattle.supers.specs.Search.{ReadyIn, ReadySearch}
@@ -80,11 +80,11 @@ first_row {w} {top} {j} {e} {c} {u} {rest} ns bs n i B N =
     }
 
 -- What the view of the rows says, in its words for givens.
-rows_given : {w : List ℕ} {top : ℕ} (ns bs : List ℕ) (n i j : ℕ) (r : Given) → Binders w bs top n → NextAs bs j n r → GivenAs ns w bs top (Rows n) i j r
-rows_given ns bs n i j (One e c u rest) B N = first_row ns bs n i B N
-rows_given {w} ns bs n i j Nothing B N = rw (N ns w)
+rows_given : {w : List ℕ} {top : ℕ} (ns bs : List ℕ) (n i j : ℕ) (r : Option Given) → Binders w bs top n → NextAs bs j n r → GivenAs ns w bs top (Rows n) i j r
+rows_given ns bs n i j (Some q) B N = first_row ns bs n i B N
+rows_given {w} ns bs n i j None B N = rw (N ns w)
 
-module _ (ns w bs : List ℕ) (top : ℕ) {src : Source} (i l : ℕ) {r : Given} where
+module _ (ns w bs : List ℕ) (top : ℕ) {src : Source} (i l : ℕ) {r : Option Given} where
   -- The source is a list.
   pub from_list : {root : Root} → src ≡ Listed root → ListedAt ns w top root i l r → GivenAt ns w bs top src i l r
   from_list e L = rw e (record { says = L.says bs })

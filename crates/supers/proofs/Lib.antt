@@ -4,6 +4,7 @@ pub mod RowLaws
 pub mod GivenLaws
 pub mod FrameLaws
 pub mod Building
+pub mod Seen
 pub mod Rest
 pub mod Walk
 pub mod Goals

@@ -13,13 +13,13 @@ use Rattle.meaning.specs.Errors.{out_of_steps, too_deep}
 use Rattle.meaning.specs.Budget.{Out, done, refused, Steps, after, step}
 use Rattle.meaning.specs.Classes.{ClassEnv, class_of, supers_of, or_next, by_supers, by_super_in}
 use Rattle.names.specs.Names.{name_of}
-use Rattle.pairs.specs.declared.Found.TheVariants.{At, Nothing}
 use Rattle.supers.specs.declared.path.Entered.{Entered}
 use Rattle.supers.specs.declared.path.Entered.TheVariants.{Up, Deep, Spent, Hit, Miss}
 use Rattle.supers.specs.ClassTable.{super_at, supers_from, Supers}
 use Rattle.supers.specs.Frames.{class_in, taken_in, framed, taken, path_core, EntersAs}
 use Rattle.supers.proofs.ClassLaws.{supers_next, supers_end}
 use Rattle.supers.proofs.FrameLaws.{Alike, alike_less, class_alike, taken_alike, path_classes, framed_alike, framed_class, framed_none, took_alike, took_class, took_one}
+use Rattle.std.specs.Prelude.{Some, None}
 
 -- What a walk is about: the classes, the entries that are taken, the given's dictionary and type, and what follows.
 pub record Way : Type 0 where
@@ -77,12 +77,12 @@ todo_alike {w} {w'} ns cl W sp (suc j) A room =
 
 module _ (ns cl : List ℕ) (W : Way) where
   -- A frame that has taken all is left.
-  pub goes_up : (w : List ℕ) (sp j n : ℕ) → super_at cl (class_in w sp j) (taken_in w sp j) ≡ Nothing → todo ns cl W w sp (suc j) n ≡ todo ns cl W w sp j n
+  pub goes_up : (w : List ℕ) (sp j n : ℕ) → super_at cl (class_in w sp j) (taken_in w sp j) ≡ None → todo ns cl W w sp (suc j) n ≡ todo ns cl W w sp j n
   unfolding todo above or_then by_supers after or_next
   goes_up w sp j n e = rw (supers_end cl _ _ e)
 
   -- The next superclass of a frame is the next entry.
-  pub goes_down : {w₁ : List ℕ} (w : List ℕ) (sp j n s : ℕ) → 2 * suc j ≤ sp → sp ≤ length w → super_at cl (class_in w sp j) (taken_in w sp j) ≡ At s → w₁ ≡ taken w sp j
+  pub goes_down : {w₁ : List ℕ} (w : List ℕ) (sp j n s : ℕ) → 2 * suc j ≤ sp → sp ≤ length w → super_at cl (class_in w sp j) (taken_in w sp j) ≡ Some s → w₁ ≡ taken w sp j
       → todo ns cl W w sp (suc j) n ≡ next ns cl W w₁ sp (suc j) s n
   unfolding todo above next by_supers or_then
   goes_down {w₁} w sp j n s room fits e t =

@@ -1,6 +1,7 @@
 -- Laws of rows: what three words say, the rows one after the other, and that their binders stand where the table does.
 use mathlib.Core.Path.{◌≡◌, refl, ap, sym, ◌∙◌}
 use mathlib.Core.List.{List, [], ◌∷◌}
+use Rattle.std.specs.Prelude.{Some, None}
 use Prim.Native.Nat.{ℕ, zero, suc, ◌+◌, ◌*◌, ◌-◌, ◌<◌, ◌≤◌}
 use native.Mathlib.Omega.{arith}
 use native.Mathlib.Decide.{ℕ_discrete}
@@ -13,7 +14,6 @@ use Rattle.ast.specs.Table.{tree, Kept}
 use Rattle.ast.proofs.Laws.{kept_tree, kept_node}
 use Rattle.supers.specs.declared.rows.Row.{Row}
 use Rattle.supers.specs.declared.rows.Row.TheVariants.{Pending, Replaced}
-use Rattle.supers.specs.declared.Given.TheVariants.{One, Nothing}
 use Rattle.supers.specs.Rows.{mark, row_of, row_at, with_row, binders_from, binders_in, TypeIn, Binders, NextRow}
 
 -- A marked row was replaced.
@@ -83,7 +83,7 @@ passing bs j n = record { from = omega arith; is = λ ns w. refl }
 
 module _ {bs : List ℕ} {j n k : ℕ} (P : Passing bs j n k) where
   -- There are no more.
-  pub passed_all : n ≤ k → NextRow bs j n Nothing
+  pub passed_all : n ≤ k → NextRow bs j n None
   passed_all h = record { says = λ ns w. P.is ns w ∙ rows_end ns w bs k n h }
 
   module _ {r : Row} (h : k < n) (e : r ≡ row_at bs k) where
@@ -92,5 +92,5 @@ module _ {bs : List ℕ} {j n k : ℕ} (P : Passing bs j n k) where
     passed_on q = record { from = (let f = P.from in omega arith); is = λ ns w. P.is ns w ∙ row_passed ns w bs k n h (sym e ∙ q) ∙ rw (add-one k) }
 
     -- It is pending.
-    pub passed_to : {d c t : ℕ} → r ≡ Pending d c t → NextRow bs j n (One (first_fresh + d) c t (k + 1))
+    pub passed_to : {d c t : ℕ} → r ≡ Pending d c t → NextRow bs j n (Some (record { dict = first_fresh + d; class = c; ty = t; rest = k + 1 }))
     passed_to {d} q = record { says = record { at = k; d = d; after = add-one k; from = P.from; below = h; row = sym e ∙ q; word = refl; is = P.is } }

@@ -21,10 +21,10 @@ use Rattle.cores.specs.Terms.{core}
 use Rattle.cores.proofs.TermLaws.{kept_core}
 use Rattle.supers.specs.declared.Source.{Source}
 use Rattle.supers.specs.declared.Given.{Given}
-use Rattle.supers.specs.declared.Given.TheVariants.{One, Nothing}
+use Rattle.std.specs.Prelude.{Option as Maybe, Some, None}
 use Rattle.supers.specs.declared.path.Entered.{Entered}
 use Rattle.supers.specs.declared.path.Entered.TheVariants.{Deep, Spent, Hit}
-use Rattle.supers.specs.declared.Searched.TheVariants.{Found, Nothing as Found-Nothing, Refused}
+use Rattle.supers.specs.Searched.{Found, Nothing as Found-Nothing, Refused}
 use Rattle.supers.specs.ClassTable.{Supers}
 use Rattle.supers.specs.Givens.{givens_in, ahead, First, GivenAt}
 use Rattle.supers.specs.Frames.{Enters, Built}
@@ -53,31 +53,31 @@ asking cl proper goal R = record { ready = R; stands = stands_refl _ _ _; long =
 
 module _ {ns cl bs w₀ w : List ℕ} {top left sp l goal t g i n : ℕ} {src : Source} {proper : Bool} (A : Asking ns cl bs w₀ top left sp src l proper goal t w g i n) where
   -- No givens are left.
-  pub none_left : {q : Given} → GivenAt ns w bs top src i g q → q ≡ Nothing → GivesFound ns cl w₀ w top left sp (λ ce. sought ns w₀ bs src 0 l proper goal t ce left) (Found-Nothing n)
+  pub none_left : {q : Maybe Given} → GivenAt ns w bs top src i g q → q ≡ None → GivesFound ns cl w₀ w top left sp (λ ce. sought ns w₀ bs src 0 l proper goal t ce left) (Found-Nothing n)
   unfolding from_givens
   none_left G k = record { stands = A.stands; answer = record { down = A.down; is = λ ce S. A.is ce S ∙ rw (rw k at G.says) } }
 
-  module _ {q : Given} {e c u rest : ℕ} {w₁ : List ℕ} {same : Bool} {r₁ : Entered} (G : GivenAt ns w bs top src i g q) (k : q ≡ One e c u rest)
-      (S : same ≡ is_yes (same_ty (tree ns w u) (tree ns w t))) (E : Enters w w₁ sp 0 n c goal same proper r₁) where
+  module _ {q : Maybe Given} {v : Given} {w₁ : List ℕ} {same : Bool} {r₁ : Entered} (G : GivenAt ns w bs top src i g q) (k : q ≡ Some v)
+      (S : same ≡ is_yes (same_ty (tree ns w v.ty) (tree ns w t))) (E : Enters w w₁ sp 0 n v.class goal same proper r₁) where
     -- The first of them.
-    first : First ns w bs top src i g e c u rest
+    first : First ns w bs top src i g v.dict v.class v.ty v.rest
     first = rw k at G.says
 
     -- The rest is shorter.
-    pub rest_less : ahead src rest < ahead src g
+    pub rest_less : ahead src v.rest < ahead src g
     rest_less = first.less
 
     -- Its walk.
     way : ClassEnv → Way
-    way ce = record { env = ce; hit = hits proper (pred (name_of ns goal) (tree ns w t)); root = core ns w e; ty = tree ns w u; rest = sought ns w bs src (suc i) rest proper goal t ce }
+    way ce = record { env = ce; hit = hits proper (pred (name_of ns goal) (tree ns w t)); root = core ns w v.dict; ty = tree ns w v.ty; rest = sought ns w bs src (suc i) v.rest proper goal t ce }
 
     -- It goes by the class table.
     fine : (ce : ClassEnv) → Supers ns cl ce → Fine ns cl goal same (way ce)
     unfolding way
     fine ce C = record {
       supers = C;
-      hit = λ s f x. proj_hit ns A.ready.names s goal (tree ns w u) (tree ns w t) S proper f x;
-      miss = λ s f x. proj_miss ns A.ready.names s goal (tree ns w u) (tree ns w t) S proper f x;
+      hit = λ s f x. proj_hit ns A.ready.names s goal (tree ns w v.ty) (tree ns w t) S proper f x;
+      miss = λ s f x. proj_miss ns A.ready.names s goal (tree ns w v.ty) (tree ns w t) S proper f x;
     }
 
     -- Room for the given's entry.
@@ -86,7 +86,7 @@ module _ {ns cl bs w₀ w : List ℕ} {top left sp l goal t g i n : ℕ} {src : 
 
     -- What stands over the given's entry.
     entered : Stands w w₁ top sp × (length w₁ ≡ length w)
-    entered = enter_stands w w₁ top sp 0 n c goal same proper r₁ enter_room E.says
+    entered = enter_stands w w₁ top sp 0 n v.class goal same proper r₁ enter_room E.says
 
     -- What is sought is what is left after the given's entry.
     begins : (ce : ClassEnv) → Supers ns cl ce → sought ns w₀ bs src 0 l proper goal t ce left ≡ pending ns cl (way ce) w₁ sp r₁ 0 n
@@ -94,9 +94,9 @@ module _ {ns cl bs w₀ w : List ℕ} {top left sp l goal t g i n : ℕ} {src : 
     begins ce C =
         let x = A.ready.room in
         A.is ce C ∙ ap (λ gs. from_givens ce gs (hits proper (pred (name_of ns goal) (tree ns w t))) n) first.is
-        ∙ enters ns cl (way ce) w w₁ sp 0 n c goal same proper r₁ (omega arith) A.ready.fits C
-        (root_hit ns A.ready.names c goal (tree ns w u) (tree ns w t) S proper (core ns w e))
-        (root_miss ns A.ready.names c goal (tree ns w u) (tree ns w t) S proper (core ns w e) first.named) E.says
+        ∙ enters ns cl (way ce) w w₁ sp 0 n v.class goal same proper r₁ (omega arith) A.ready.fits C
+        (root_hit ns A.ready.names v.class goal (tree ns w v.ty) (tree ns w t) S proper (core ns w v.dict))
+        (root_miss ns A.ready.names v.class goal (tree ns w v.ty) (tree ns w t) S proper (core ns w v.dict) first.named) E.says
 
     -- Room for the walk.
     pub walk_room : (4 * top + 8 * n ≤ sp) × (sp ≤ length w₁)
@@ -136,15 +136,15 @@ module _ {ns cl bs w₀ w : List ℕ} {top left sp l goal t g i n : ℕ} {src : 
           }
 
       -- No step is left for it.
-      pub no_step : r ≡ Spent → GivesFound ns cl w₀ w₂ top left sp (λ ce. sought ns w₀ bs src 0 l proper goal t ce left) (Refused No-Steps top 0)
+      pub no_step : r ≡ Spent → GivesFound ns cl w₀ w₂ top left sp (λ ce. sought ns w₀ bs src 0 l proper goal t ce left) (Refused No-Steps top n₂)
       unfolding pending
-      no_step h = record {
+      no_step h = let z = holds_at K h in record {
         stands = stands_then A.stands since (omega arith);
-        answer = λ ce C. record { is = so_far ce C ∙ rw h; types = tt; more = omega arith; down = omega arith };
+        answer = λ ce C. record { is = so_far ce C ∙ rw (h, z); types = tt; more = omega arith; down = omega arith };
       }
 
       -- It is the goal, and its projections were made.
-      pub is_goal : {w₃ : List ℕ} {p : ℕ} → r ≡ Hit → Built w₂ w₃ top sp d e p → GivesFound ns cl w₀ w₃ top left sp (λ ce. sought ns w₀ bs src 0 l proper goal t ce left) (Found p (top + d) (n₂ - 1))
+      pub is_goal : {w₃ : List ℕ} {p : ℕ} → r ≡ Hit → Built w₂ w₃ top sp d v.dict p → GivesFound ns cl w₀ w₃ top left sp (λ ce. sought ns w₀ bs src 0 l proper goal t ce left) (Found p (top + d) (n₂ - 1))
       unfolding pending way
       is_goal {w₃} {p} h B =
           let x = K.paid in
@@ -162,7 +162,7 @@ module _ {ns cl bs w₀ w : List ℕ} {top left sp l goal t g i n : ℕ} {src : 
           }
 
       -- What `build` asks.
-      pub build_ready : r ≡ Hit → (4 * top + 4 * d + 2 * d + 2 ≤ sp) × ((sp ≤ length w₂) × Node w₂ top e)
+      pub build_ready : r ≡ Hit → (4 * top + 4 * d + 2 * d + 2 ≤ sp) × ((sp ≤ length w₂) × Node w₂ top v.dict)
       build_ready h =
           let x = K.paid in
           let y = A.ready.room in
@@ -174,7 +174,7 @@ module _ {ns cl bs w₀ w : List ℕ} {top left sp l goal t g i n : ℕ} {src : 
           (omega arith, (omega arith, kept_node since.low (omega arith) (low_node A.ready.ty.table first.low)))
 
     -- The walk is over: the loop comes to the rest.
-    pub asks_on : {w₂ : List ℕ} {n₂ d : ℕ} → Going ns cl w₁ top sp n goal same r₁ w₂ n₂ d → d ≡ 0 → Asking ns cl bs w₀ top left sp src l proper goal t w₂ rest (i + 1) n₂
+    pub asks_on : {w₂ : List ℕ} {n₂ d : ℕ} → Going ns cl w₁ top sp n goal same r₁ w₂ n₂ d → d ≡ 0 → Asking ns cl bs w₀ top left sp src l proper goal t w₂ v.rest (i + 1) n₂
     unfolding way todo
     asks_on {w₂} {n₂} {d} K h =
         let F = first in
@@ -189,7 +189,7 @@ module _ {ns cl bs w₀ w : List ℕ} {top left sp l goal t g i n : ℕ} {src : 
         record {
           ready = record {
             names = A.ready.names;
-            givens = rw (add-one i) (kept_ready ns bs src (suc i) rest since.low (omega arith) F.others);
+            givens = rw (add-one i) (kept_ready ns bs src (suc i) v.rest since.low (omega arith) F.others);
             ty = kept_node since.low (omega arith) A.ready.ty;
             room = omega arith;
             fits = omega arith;
@@ -198,5 +198,5 @@ module _ {ns cl bs w₀ w : List ℕ} {top left sp l goal t g i n : ℕ} {src : 
           long = l₂ ∙ l₁ ∙ A.long;
           down = omega arith;
           past = (let a = A.past in let b = F.less in omega arith);
-          is = λ ce C. begins ce C ∙ K.is (way ce) (fine ce C) ∙ rw (h, add-one i, kept_givens ns bs src (suc i) rest since.low F.others, kept_tree ns since.low A.ready.ty);
+          is = λ ce C. begins ce C ∙ K.is (way ce) (fine ce C) ∙ rw (h, add-one i, kept_givens ns bs src (suc i) v.rest since.low F.others, kept_tree ns since.low A.ready.ty);
         }

@@ -22,11 +22,11 @@ pub record Fine (ns cl : List ℕ) (goal : ℕ) (same : Bool) (W : Way) : Type 0
   pub hit : (s : ℕ) (f : Core) (x : Field) → s ≡ goal → same ≡ true → W.hit (dict_proj f x) (pred (name_of ns s) W.ty) ≡ true
   pub miss : (s : ℕ) (f : Core) (x : Field) → (s ≡ goal → same ≡ true → ⊥) → W.hit (dict_proj f x) (pred (name_of ns s) W.ty) ≡ false
 
--- What came of an entry can be followed: a frame to leave, or a step to take.
+-- What came of an entry can be followed: a frame to leave, or a step to take; where no step is left, none is.
 abbrev pub Holds : Entered → ℕ → ℕ → Type 0
 Holds Up d n = 0 < d
 Holds Deep d n = Unit {0}
-Holds Spent d n = Unit {0}
+Holds Spent d n = n ≡ 0
 Holds Hit d n = 0 < n
 Holds Miss d n = 0 < n
 
@@ -49,7 +49,7 @@ pub record Going (ns cl w₁ : List ℕ) (top sp n₁ goal : ℕ) (same : Bool) 
 holds_of : (w w' : List ℕ) (sp d n s goal : ℕ) (same barred : Bool) (r : Entered) → EntersAs w w' sp d n s goal same barred r → Holds r d n
 holds_of w w' sp d n s goal same barred Up x = absurd x
 holds_of w w' sp d n s goal same barred Deep x = tt
-holds_of w w' sp d n s goal same barred Spent x = tt
+holds_of w w' sp d n s goal same barred Spent x = x.1.1
 holds_of w w' sp d n s goal same barred Hit x = x.1.1.0
 holds_of w w' sp d n s goal same barred Miss x = x.1.1.0
 

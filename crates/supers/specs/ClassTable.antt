@@ -4,8 +4,7 @@ use Rattle.std.specs.Prelude.{◌≡◌, Bool, ◌&&◌, List, [], ◌∷◌, ma
 use Rattle.meaning.specs.Base.{if}
 use Rattle.meaning.specs.Classes.{ClassEnv, class_of, supers_of}
 use Rattle.names.specs.Names.{name_of}
-use Rattle.pairs.specs.declared.Found.{Found}
-use Rattle.pairs.specs.declared.Found.TheVariants.{At, Nothing}
+use Rattle.std.specs.Prelude.{Option, Some, None}
 
 -- A class is declared where its row leads to a place after the row. So no word after the rows is taken for a row: the words
 -- there are names that have rows, and lead to a place before.
@@ -13,15 +12,15 @@ unfoldable pub declared_at : List ℕ → ℕ → Bool
 declared_at cl c = ltb (2 * c + 1) (length cl) && ltb (2 * c + 1) (get_or cl (2 * c) 0)
 
 -- The i-th superclass of the class of name c; there is none where a number leads out of the table.
-unfoldable pub super_at : List ℕ → ℕ → ℕ → Found
+unfoldable pub super_at : List ℕ → ℕ → ℕ → Option ℕ
 super_at cl c i =
     if (declared_at cl c) (if (ltb i (get_or cl (2 * c + 1) 0)) (
-    if (ltb (get_or cl (2 * c) 0 + i) (length cl)) (At (get_or cl (get_or cl (2 * c) 0 + i) 0)) Nothing) Nothing) Nothing
+    if (ltb (get_or cl (2 * c) 0 + i) (length cl)) (Some (get_or cl (get_or cl (2 * c) 0 + i) 0)) None) None) None
 
 -- A superclass and those after it, or none.
-abbrev pub with_next : Found → List ℕ → List ℕ
-with_next (At s) ss = s ∷ ss
-with_next Nothing ss = []
+abbrev pub with_next : (Option ℕ) → List ℕ → List ℕ
+with_next (Some s) ss = s ∷ ss
+with_next None ss = []
 
 -- The superclasses from the i-th on, with so much fuel.
 unfoldable pub supers_f : ℕ → List ℕ → ℕ → ℕ → List ℕ

@@ -4,11 +4,11 @@ use Rattle.meaning.specs.Ast.{super, Core, dict_proj}
 use Rattle.names.specs.Names.{name_of}
 use Rattle.ast.specs.Table.{Node}
 use Rattle.pairs.specs.Pairs.{Stands}
-use Rattle.pairs.specs.declared.Found.TheVariants.{At, Nothing}
 use Rattle.cores.specs.Terms.{core}
 use Rattle.supers.specs.ClassTable.{super_at}
 use Rattle.supers.specs.declared.path.Entered.{Entered}
 use Rattle.supers.specs.declared.path.Entered.TheVariants.{Up, Deep, Spent, Hit, Miss}
+use Rattle.std.specs.Prelude.{Some, None}
 
 -- The class of frame j.
 unfoldable pub class_in : List ℕ → ℕ → ℕ → ℕ
@@ -45,12 +45,12 @@ pub record Enters (w w' : List ℕ) (sp d left s goal : ℕ) (same barred : Bool
 -- The next superclass s of frame j was taken and entered.
 pub record Took (cl w w' : List ℕ) (sp j left goal : ℕ) (same : Bool) (r : Entered) : Type 0 where
   pub s : ℕ
-  pub next : super_at cl (class_in w sp j) (taken_in w sp j) ≡ At s
+  pub next : super_at cl (class_in w sp j) (taken_in w sp j) ≡ Some s
   pub entered : EntersAs (taken w sp j) w' sp (suc j) left s goal same false r
 
 -- What comes of the next superclass of frame j: there is none, or it was entered.
 abbrev pub TurnsAs : List ℕ → List ℕ → List ℕ → ℕ → ℕ → ℕ → ℕ → Bool → Entered → Type 0
-TurnsAs cl w w' sp j left goal same Up = (w' ≡ w) × (super_at cl (class_in w sp j) (taken_in w sp j) ≡ Nothing)
+TurnsAs cl w w' sp j left goal same Up = (w' ≡ w) × (super_at cl (class_in w sp j) (taken_in w sp j) ≡ None)
 TurnsAs cl w w' sp j left goal same Deep = Took cl w w' sp j left goal same Deep
 TurnsAs cl w w' sp j left goal same Spent = Took cl w w' sp j left goal same Spent
 TurnsAs cl w w' sp j left goal same Hit = Took cl w w' sp j left goal same Hit

@@ -1,5 +1,5 @@
 -- The dictionaries that givens name, which stand in a list of the table or in rows.
-use Rattle.std.specs.Prelude.{◌≡◌, false, List, [], ◌∷◌, ℕ, suc, ◌+◌, ◌-◌, ◌<◌, ◌≤◌}
+use Rattle.std.specs.Prelude.{◌≡◌, Option, Some, None, false, List, [], ◌∷◌, ℕ, suc, ◌+◌, ◌-◌, ◌<◌, ◌≤◌}
 use Rattle.meaning.specs.Base.{count}
 use Rattle.meaning.specs.Ast.{pred}
 use Rattle.meaning.specs.Classes.{Given}
@@ -16,7 +16,6 @@ use Rattle.supers.specs.declared.Root.TheVariants.{Context, Binder}
 use Rattle.supers.specs.declared.Source.{Source}
 use Rattle.supers.specs.declared.Source.TheVariants.{Listed, Rows}
 use Rattle.supers.specs.declared.Given.{Given as A-Given}
-use Rattle.supers.specs.declared.Given.TheVariants.{One, Nothing}
 
 -- A list's word stands for an instance's context from number i on (`context_givens`), or for binders (`roots`).
 abbrev pub givens_of : List ℕ → List ℕ → Root → ℕ → ℕ → List Given
@@ -53,13 +52,13 @@ pub record First (ns w bs : List ℕ) (top : ℕ) (src : Source) (i l e c u rest
   pub is : givens_in ns w bs src i l ≡ (core ns w e, pred (name_of ns c) (tree ns w u)) ∷ givens_in ns w bs src (suc i) rest
 
 -- What the view of givens says.
-abbrev pub GivenAs : List ℕ → List ℕ → List ℕ → ℕ → Source → ℕ → ℕ → A-Given → Type 0
-GivenAs ns w bs top src i l (One e c u rest) = First ns w bs top src i l e c u rest
-GivenAs ns w bs top src i l Nothing = givens_in ns w bs src i l ≡ []
+abbrev pub GivenAs : List ℕ → List ℕ → List ℕ → ℕ → Source → ℕ → ℕ → Option A-Given → Type 0
+GivenAs ns w bs top src i l (Some q) = First ns w bs top src i l q.dict q.class q.ty q.rest
+GivenAs ns w bs top src i l None = givens_in ns w bs src i l ≡ []
 
-pub record GivenAt (ns w bs : List ℕ) (top : ℕ) (src : Source) (i l : ℕ) (r : A-Given) : Type 0 where
+pub record GivenAt (ns w bs : List ℕ) (top : ℕ) (src : Source) (i l : ℕ) (r : Option A-Given) : Type 0 where
   pub says : GivenAs ns w bs top src i l r
 
 -- The same of a list, whatever rows there are beside it.
-pub record ListedAt (ns w : List ℕ) (top : ℕ) (root : Root) (i l : ℕ) (r : A-Given) : Type 0 where
+pub record ListedAt (ns w : List ℕ) (top : ℕ) (root : Root) (i l : ℕ) (r : Option A-Given) : Type 0 where
   pub says : (bs : List ℕ) → GivenAs ns w bs top (Listed root) i l r

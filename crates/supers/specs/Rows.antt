@@ -1,6 +1,6 @@
 -- Binders as rows of a lent slice, three words each: a dictionary's number, its class's name and its type's word. A row that
 -- was replaced has a mark for its class, and its third word is the dictionary that replaces it.
-use Rattle.std.specs.Prelude.{◌≡◌, List, [], ◌∷◌, ℕ, zero, suc, ◌+◌, ◌*◌, ◌-◌, ◌<◌, ◌≤◌, length, get_or}
+use Rattle.std.specs.Prelude.{◌≡◌, Option, Some, None, List, [], ◌∷◌, ℕ, zero, suc, ◌+◌, ◌*◌, ◌-◌, ◌<◌, ◌≤◌, length, get_or}
 use Rattle.meaning.specs.Base.{if, eqb}
 use Rattle.meaning.specs.Ast.{dvar, pred, Binder}
 use Rattle.names.specs.Names.{first_fresh, name_of}
@@ -8,7 +8,6 @@ use Rattle.ast.specs.Table.{tree, Node}
 use Rattle.supers.specs.declared.rows.Row.{Row}
 use Rattle.supers.specs.declared.rows.Row.TheVariants.{Pending, Replaced}
 use Rattle.supers.specs.declared.Given.{Given}
-use Rattle.supers.specs.declared.Given.TheVariants.{One, Nothing}
 
 -- The mark: no class has this number.
 abbrev pub mark : ℕ
@@ -68,9 +67,9 @@ pub record NextIs (bs : List ℕ) (j n e c u rest : ℕ) : Type 0 where
   pub is : (ns w : List ℕ) → binders_in ns w bs j n ≡ binders_in ns w bs at n
 
 -- What the view of the rows from number j up to number n says.
-abbrev pub NextAs : List ℕ → ℕ → ℕ → Given → Type 0
-NextAs bs j n (One e c u rest) = NextIs bs j n e c u rest
-NextAs bs j n Nothing = (ns w : List ℕ) → binders_in ns w bs j n ≡ []
+abbrev pub NextAs : List ℕ → ℕ → ℕ → Option Given → Type 0
+NextAs bs j n (Some q) = NextIs bs j n q.dict q.class q.ty q.rest
+NextAs bs j n None = (ns w : List ℕ) → binders_in ns w bs j n ≡ []
 
-pub record NextRow (bs : List ℕ) (j n : ℕ) (r : Given) : Type 0 where
+pub record NextRow (bs : List ℕ) (j n : ℕ) (r : Option Given) : Type 0 where
   pub says : NextAs bs j n r

@@ -15,8 +15,8 @@ use Rattle.supers.specs.ClassTable.{Supers}
 use Rattle.supers.specs.Givens.{Few, GivensReady}
 use Rattle.supers.specs.declared.Root.{Root}
 use Rattle.supers.specs.declared.Source.{Source}
-use Rattle.supers.specs.declared.Searched.{Searched}
-use Rattle.supers.specs.declared.Searched.TheVariants.{Found, Nothing, Refused}
+use Rattle.supers.specs.Searched.{Searched}
+use Rattle.supers.specs.Searched.{Found, Nothing, Refused}
 
 -- Which entries are taken: those equal to the goal; of these the projections alone, where it must be proper.
 abbrev pub hits : Bool → Pred → Core → Pred → Bool

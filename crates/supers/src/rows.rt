@@ -1,14 +1,17 @@
 // Binders as rows of a lent slice, of which some were replaced.
-ghost use Rattle.std.specs.Prelude.{◌≡◌, ◌++◌, ◌+◌, ◌*◌, ◌≤◌, length};
+ghost use Rattle.std.specs.Prelude.{◌≡◌, Ok, None, ◌++◌, ◌+◌, ◌*◌, ◌≤◌, length};
 ghost use Rattle.meaning.specs.Ast.{pred};
 ghost use Rattle.meaning.specs.Reduce.{find_super_proof};
 ghost use Rattle.names.specs.Names.{name_of};
 ghost use Rattle.ast.specs.Table.{tree};
 ghost use Rattle.supers.specs.Givens.{GivensReady, GivenAt};
 ghost use Rattle.supers.specs.Rows.{row_at, binders_in, RowsFit, NextRow};
+ghost use Rattle.supers.specs.Searched.{searched_of};
 ghost use Rattle.supers.specs.Search.{ReadyIn, GivesFound};
 
-use crate::{Given, Searched, Source};
+use crate::{Given, Source};
+use ast::{Base, Room};
+use errors::Refusal;
 
 // The class of a row that was replaced.
 pub const MARK: u64 = 18446744073709551615;
@@ -36,71 +39,68 @@ pub fn row_at(binders: &[u64], j: usize) -> Row
 }
 
 // The first row from number j up to number n that was not replaced.
-pub fn next_row(binders: &[u64], j: usize, n: usize) -> Given
+pub fn next_row(binders: &[u64], j: usize, n: usize) -> Option<Given>
     requires { RowsFit binders.now n }
     ensures { NextRow binders.now j n result }
 {
-    let mut k = j;
-    while k < n {
+    for k in j..n {
         let q = row_at(binders, k);
-        match q {
-            Row::Pending(d, c, t) => return Given::One(names::FRESH + d, c, t, k + 1),
-            Row::Replaced(_, _) => {
-                k += 1;
-            }
+        if let Row::Pending(d, c, t) = q {
+            return Some(Given {
+                dict: names::FRESH + d,
+                class: c,
+                ty: t,
+                rest: k + 1,
+            });
         }
     }
-    Given::Nothing
+    None
 }
 
 // The first given from l on, which is the i-th.
 pub fn given_in(
-    base: &[u64],
+    base: Base,
     work: &[u64],
-    names: &[u64],
     binders: &[u64],
     top: usize,
     source: Source,
     l: usize,
     i: usize,
-) -> Given
-    requires { GivensReady names.now (base.now ++ work.now) binders.now top source i l }
-    ensures { GivenAt names.now (base.now ++ work.now) binders.now top source i l result }
+) -> Option<Given>
+    requires { GivensReady base.names.now (base.words.now ++ work.now) binders.now top source i l }
+    ensures { GivenAt base.entry.names.now (base.entry.words.now ++ work.now) binders.now top source i l result }
 {
     match source {
-        Source::Listed(root) => crate::listed_at(base, work, names, top, root, l, i),
+        Source::Listed(root) => crate::listed_at(base, work, top, root, l, i),
         Source::Rows(n) => next_row(binders, l, n),
     }
 }
 
 // `find_super_proof` over the first n rows: the first projection of a pending one that is the goal.
 pub fn find_super_row(
-    base: &[u64],
+    base: Base,
     work: &mut [u64],
-    names: &[u64],
+    room: &mut Room,
     classes: &[u64],
     binders: &[u64],
-    top: usize,
-    left: usize,
     sp: usize,
     n: usize,
     goal: usize,
     t: usize,
-) -> Searched
-    requires base_len_bound { length base.now ≤ 4 * top }
-    requires ready_in { ReadyIn names.now (base.now ++ work.old) binders.now top left sp (Source.Rows n) 0 0 t }
-    ensures { GivesFound names.now classes.now (base.now ++ work.old) (base.now ++ work.new) top left sp
-        (λ ce. find_super_proof ce (binders_in names.now (base.now ++ work.old) binders.now 0 n)
-        (pred (name_of names.now goal) (tree names.now (base.now ++ work.old) t)) left) result }
+) -> Result<Option<usize>, Refusal>
+    requires base_len_bound { length base.words.now ≤ 4 * room.old.top }
+    requires ready_in { ReadyIn base.names.now (base.words.now ++ work.old) binders.now room.old.top room.old.left sp (Source.Rows n) 0 0 t }
+    ensures gives { GivesFound base.entry.names.now classes.now (base.entry.words.now ++ work.old) (base.entry.words.now ++ work.new) room.old.top room.old.left sp
+        (λ ce. find_super_proof ce (binders_in base.entry.names.now (base.entry.words.now ++ work.old) binders.now 0 n)
+        (pred (name_of base.entry.names.now goal) (tree base.entry.names.now (base.entry.words.now ++ work.old) t)) room.old.left) (searched_of result room.new.top room.new.left) }
+    ensures stays { result ≡ Ok None → room.new.top ≡ room.old.top }
 {
     crate::search_in(
         base,
         work,
-        names,
+        room,
         classes,
         binders,
-        top,
-        left,
         sp,
         Source::Rows(n),
         0,

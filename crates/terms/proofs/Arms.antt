@@ -20,9 +20,9 @@ use Rattle.cores.specs.Binders.{binders_of_word}
 use Rattle.cores.specs.Terms.{core, cores}
 use Rattle.cores.proofs.Parted.{parts_below}
 use Rattle.cores.proofs.TermLaws.{core_of}
-use Rattle.apply.specs.declared.Applied.{Applied}
+use Rattle.apply.specs.Applied.{Applied}
 use Rattle.errors.specs.declared.Refusal.TheVariants.{Depth, Steps}
-use Rattle.apply.specs.declared.Applied.TheVariants.{Done, Refused}
+use Rattle.apply.specs.Applied.{Done, Refused}
 use Rattle.terms.specs.Plain.{plain_node, plain_in}
 use Rattle.terms.specs.Rows.{replaced_in, replacement_in, ReadyTerm}
 use Rattle.terms.specs.Answers.{GivesTerm, node_out}
@@ -56,8 +56,8 @@ deep R h = refuses (λ ns u. plain_deep _ _ _ _ h) tt (omega arith)
 
 -- For want of steps.
 pub spent : {w bs : List ℕ} {top left n e depth : ℕ} → ReadyTerm w bs top left n e → (depth ≡ 0 → ⊥) → left ≡ 0
-    → GivesTerm core 4 w w top left (λ ns. plain_in depth (replaced_in ns w bs n) (core ns w e) left) (Refused Steps top 0)
-spent R p h = refuses (λ ns u. plain_spent _ _ _ _ p h) tt (omega arith)
+    → GivesTerm core 4 w w top left (λ ns. plain_in depth (replaced_in ns w bs n) (core ns w e) left) (Refused Steps top left)
+spent R p h = refuses (λ ns u. plain_spent _ _ _ _ p h ∙ rw h) tt (omega arith)
 
 -- r is what `part_at` returned.
 module _ {w bs : List ℕ} {top left n t depth : ℕ} (R : ReadyTerm w bs top left n t) (dp : depth ≡ 0 → ⊥) (lp : left ≡ 0 → ⊥) {r : Part} (e : r ≡ part_of w t) where

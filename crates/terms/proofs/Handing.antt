@@ -12,8 +12,8 @@ use Rattle.errors.specs.declared.Refusal.{Refusal}
 use Rattle.errors.specs.Refusals.{refusal_of, InTable}
 use Rattle.pairs.specs.Pairs.{Stands}
 use Rattle.pairs.proofs.Frames.{stands_refl, stands_then, stands_up}
-use Rattle.apply.specs.declared.Applied.{Applied}
-use Rattle.apply.specs.declared.Applied.TheVariants.{Done, Refused}
+use Rattle.apply.specs.Applied.{Applied}
+use Rattle.apply.specs.Applied.{Done, Refused}
 use Rattle.apply.proofs.Hand.{refuse_on, refuse_same, refuse_here}
 use Rattle.apply.proofs.Ways.{Room}
 use Rattle.terms.specs.Answers.{MakesFor, AnswerFor, GivesFor}

@@ -17,8 +17,8 @@ use Rattle.pairs.proofs.Frames.{pushed_stands}
 use Rattle.cores.specs.Terms.{core, cores}
 use Rattle.cores.proofs.TermLaws.{kept_core, cores_nil, cores_cons}
 use Rattle.cores.proofs.NewTerm.{push_cores}
-use Rattle.apply.specs.declared.Applied.{Applied}
-use Rattle.apply.specs.declared.Applied.TheVariants.{Done, Refused}
+use Rattle.apply.specs.Applied.{Applied}
+use Rattle.apply.specs.Applied.{Done, Refused}
 use Rattle.apply.proofs.Ways.{Room}
 use Rattle.terms.specs.Plain.{plain_in}
 use Rattle.terms.specs.Rows.{replaced_in, ReadyTerm}

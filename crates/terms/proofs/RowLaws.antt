@@ -12,37 +12,36 @@ use Rattle.meaning.specs.Map.{Map, dicts, get}
 use Rattle.meaning.specs.Cores.{or_core}
 use Rattle.ast.specs.Table.{Table, Node, Kept}
 use Rattle.ast.proofs.Laws.{node_more}
-use Rattle.pairs.specs.declared.Found.{Found}
-use Rattle.pairs.specs.declared.Found.TheVariants.{At, Nothing}
 use Rattle.cores.specs.Terms.{core}
 use Rattle.cores.proofs.TermLaws.{kept_core}
 use Rattle.supers.specs.Rows.{row_at}
 use Rattle.supers.specs.declared.rows.Row.{Row}
 use Rattle.supers.specs.declared.rows.Row.TheVariants.{Pending, Replaced}
 use Rattle.terms.specs.Rows.{with_replaced, replaced_from, replaced_in, row_for, or_word, replacement_from, replacement_in, TermIn, Replacing}
+use Rattle.std.specs.Prelude.{Option, Some, None}
 
 -- ## One row: q is what `row_at` returned
 
 module _ (bs : List ℕ) (j d : ℕ) {q : Row} (e : q ≡ row_at bs j) where
   -- A pending row replaces nothing.
-  pub for_none : {c a t : ℕ} → q ≡ Pending c a t → Nothing ≡ row_for (row_at bs j) d
+  pub for_none : {c a t : ℕ} → q ≡ Pending c a t → None ≡ row_for (row_at bs j) d
   for_none k = rw (sym e ∙ k)
 
   -- It replaces the dictionary of its own number.
-  pub for_this : {c x : ℕ} → q ≡ Replaced c x → c ≡ d → At x ≡ row_for (row_at bs j) d
+  pub for_this : {c x : ℕ} → q ≡ Replaced c x → c ≡ d → Some x ≡ row_for (row_at bs j) d
   unfolding eqb
   for_this {c} {x} k h = rw (sym e ∙ k) (go (ℕ_discrete c d))
     where
-      go : (t : Dec (c ≡ d)) → At x ≡ if (is_yes t) (At x) Nothing
+      go : (t : Dec (c ≡ d)) → Some x ≡ if (is_yes t) (Some x) None
       go (yes p) = refl
       go (no n) = absurd (n h)
 
   -- And no other.
-  pub for_other : {c x : ℕ} → q ≡ Replaced c x → (c ≡ d → ⊥) → Nothing ≡ row_for (row_at bs j) d
+  pub for_other : {c x : ℕ} → q ≡ Replaced c x → (c ≡ d → ⊥) → None ≡ row_for (row_at bs j) d
   unfolding eqb
   for_other {c} {x} k h = rw (sym e ∙ k) (go (ℕ_discrete c d))
     where
-      go : (t : Dec (c ≡ d)) → Nothing ≡ if (is_yes t) (At x) Nothing
+      go : (t : Dec (c ≡ d)) → None ≡ if (is_yes t) (Some x) None
       go (yes p) = absurd (h p)
       go (no n) = refl
 
@@ -67,13 +66,13 @@ module _ {bs : List ℕ} {n d e j : ℕ} (L : Looking bs n d e j) where
   unfolding replacement_from
   looked_all h = let z : n - j ≡ 0 = omega arith in sym (L.is ∙ rw z)
 
-  module _ {f : Found} (h : j < n) (i : f ≡ row_for (row_at bs j) d) where
+  module _ {f : Option ℕ} (h : j < n) (i : f ≡ row_for (row_at bs j) d) where
     -- Row j is for the number.
-    pub looked_at : {x : ℕ} → f ≡ At x → x ≡ replacement_in bs 0 n d e
+    pub looked_at : {x : ℕ} → f ≡ Some x → x ≡ replacement_in bs 0 n d e
     looked_at k = sym (L.is ∙ replacement_step bs j n d e h ∙ rw (sym i ∙ k))
 
     -- It is not.
-    pub looked_on : f ≡ Nothing → Looking bs n d e (j + 1)
+    pub looked_on : f ≡ None → Looking bs n d e (j + 1)
     looked_on k = record { is = L.is ∙ replacement_step bs j n d e h ∙ rw (sym i ∙ k, add-one j) }
 
 -- ## What is found
@@ -85,7 +84,7 @@ unfolding get eqb or_core
 or_row ns w d (Pending c a t) sub y ih = ih
 or_row ns w d (Replaced c x) sub y ih = go (same_dict (dvar d) (dvar c)) (ℕ_discrete c d)
   where
-    go : (p : Dec (dvar d ≡ dvar c)) (t : Dec (c ≡ d)) → or_core (cdict (dvar d)) (if (is_yes p) (some (core ns w x)) (get dicts (dvar d) sub)) ≡ core ns w (or_word (if (is_yes t) (At x) Nothing) y)
+    go : (p : Dec (dvar d ≡ dvar c)) (t : Dec (c ≡ d)) → or_core (cdict (dvar d)) (if (is_yes p) (some (core ns w x)) (get dicts (dvar d) sub)) ≡ core ns w (or_word (if (is_yes t) (Some x) None) y)
     go (yes p) (yes t) = refl
     go (yes p) (no t) = absurd (t (cc))
     go (no p) (yes t) = absurd (p (ap dvar (sym t)))
@@ -135,7 +134,7 @@ unfolding eqb
 found_in d (Pending c a t) h Y = Y
 found_in {w} {top} {y} d (Replaced c x) h Y = go (ℕ_discrete c d)
   where
-    go : (t : Dec (c ≡ d)) → Node w top (or_word (if (is_yes t) (At x) Nothing) y)
+    go : (t : Dec (c ≡ d)) → Node w top (or_word (if (is_yes t) (Some x) None) y)
     go (yes p) = h
     go (no p) = Y
 

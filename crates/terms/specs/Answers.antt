@@ -6,8 +6,8 @@ use Rattle.meaning.specs.Budget.{Out, done}
 use Rattle.ast.specs.Table.{Node}
 use Rattle.errors.specs.Refusals.{Refuses}
 use Rattle.pairs.specs.Pairs.{Stands}
-use Rattle.apply.specs.declared.Applied.{Applied}
-use Rattle.apply.specs.declared.Applied.TheVariants.{Done, Refused}
+use Rattle.apply.specs.Applied.{Applied}
+use Rattle.apply.specs.Applied.{Done, Refused}
 use Rattle.terms.specs.Plain.{plain_node, plain_in}
 use Rattle.terms.specs.Rows.{replaced_in}
 

@@ -4,12 +4,11 @@ use Rattle.meaning.specs.Base.{if, eqb}
 use Rattle.meaning.specs.Ast.{dvar, DictName, Core}
 use Rattle.meaning.specs.Map.{Map}
 use Rattle.ast.specs.Table.{Node}
-use Rattle.pairs.specs.declared.Found.{Found}
-use Rattle.pairs.specs.declared.Found.TheVariants.{At, Nothing}
 use Rattle.cores.specs.Terms.{core}
 use Rattle.supers.specs.Rows.{row_at}
 use Rattle.supers.specs.declared.rows.Row.{Row}
 use Rattle.supers.specs.declared.rows.Row.TheVariants.{Pending, Replaced}
+use Rattle.std.specs.Prelude.{Option, Some, None}
 
 -- The pair of a row that was replaced, and others after it.
 abbrev pub with_replaced : List ℕ → List ℕ → Row → Map DictName Core → Map DictName Core
@@ -26,14 +25,14 @@ abbrev pub replaced_in : List ℕ → List ℕ → List ℕ → ℕ → Map Dict
 replaced_in ns w bs n = replaced_from ns w bs 0 n
 
 -- The word by which a row replaces the dictionary of number d.
-abbrev pub row_for : Row → ℕ → Found
-row_for (Pending e c t) d = Nothing
-row_for (Replaced e x) d = if (eqb e d) (At x) Nothing
+abbrev pub row_for : Row → ℕ → Option ℕ
+row_for (Pending e c t) d = None
+row_for (Replaced e x) d = if (eqb e d) (Some x) None
 
 -- What was found, or another word.
-abbrev pub or_word : Found → ℕ → ℕ
-or_word (At x) e = x
-or_word Nothing e = e
+abbrev pub or_word : (Option ℕ) → ℕ → ℕ
+or_word (Some x) e = x
+or_word None e = e
 
 -- The word by which the first of k rows from number j on replaces the dictionary of number d; e if none does.
 unfoldable pub replacement_from : List ℕ → ℕ → ℕ → ℕ → ℕ → ℕ

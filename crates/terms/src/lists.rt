@@ -5,45 +5,34 @@ ghost use Rattle.cores.specs.Terms.{cores};
 ghost use Rattle.terms.specs.Plain.{plain_in};
 ghost use Rattle.terms.specs.Rows.{replaced_in, ReadyTerm};
 ghost use Rattle.terms.specs.Answers.{GivesTerm};
+ghost use Rattle.apply.specs.Applied.{applied_of};
 
-use apply::Applied;
-use ast::Cell;
+use ast::{Base, Cell, Room};
+use errors::Refusal;
 
 // The same at each term of the list v, left to right.
 #[cycle(in_abs_in_call_in_dict_abs_in_dict_app_in_let_in_method_in_super_in_each_subst_core)]
 pub fn in_each(
-    base: &[u64],
+    base: Base,
     work: &mut [u64],
+    room: &mut Room,
     binders: &[u64],
-    top: usize,
-    left: usize,
     depth: usize,
     n: usize,
     v: usize,
-) -> Applied
-    requires base_len_bound { length base.now ≤ 4 * top }
-    requires ready_term { ReadyTerm (base.now ++ work.old) binders.now top left n v }
-    ensures { GivesTerm cores 0 (base.now ++ work.old) (base.now ++ work.new) top left
-        (λ ns. each_core (plain_in depth (replaced_in ns (base.now ++ work.old) binders.now n)) (cores ns (base.now ++ work.old) v) left) result }
+) -> Result<usize, Refusal>
+    requires base_len_bound { length base.words.now ≤ 4 * room.old.top }
+    requires ready_term { ReadyTerm (base.words.now ++ work.old) binders.now room.old.top room.old.left n v }
+    ensures { GivesTerm cores 0 (base.entry.words.now ++ work.old) (base.entry.words.now ++ work.new) room.old.top room.old.left
+        (λ ns. each_core (plain_in depth (replaced_in ns (base.entry.words.now ++ work.old) binders.now n)) (cores ns (base.entry.words.now ++ work.old) v) room.old.left) (applied_of result room.new.top room.new.left) }
 {
     let c = ast::cell_at(base, work, v);
     match c {
-        Cell::Nil => Applied::Done(v, top, left),
+        Cell::Nil => Ok(v),
         Cell::Cons(a, b) => {
-            let r = crate::subst_core(base, work, binders, top, left, depth, n, a);
-            match r {
-                Applied::Done(m, t2, l2) => {
-                    let q = in_each(base, work, binders, t2, l2, depth, n, b);
-                    match q {
-                        Applied::Done(m2, t3, l3) => {
-                            ast::push(base, work, t3, 3, m, m2);
-                            Applied::Done(names::NODE + t3, t3 + 1, l3)
-                        }
-                        Applied::Refused(u, t3, l3) => Applied::Refused(u, t3, l3),
-                    }
-                }
-                Applied::Refused(u, t2, l2) => Applied::Refused(u, t2, l2),
-            }
+            let m = crate::subst_core(base, work, room, binders, depth, n, a)?;
+            let m2 = in_each(base, work, room, binders, depth, n, b)?;
+            Ok(ast::add(base, work, room, ast::CONS, m, m2))
         }
     }
 }

@@ -19,31 +19,31 @@ use Rattle.errors.specs.declared.Refusal.{Refusal}
 use Rattle.pairs.specs.Pairs.{sub_at, Stands}
 use Rattle.pairs.proofs.Frames.{stands_then, stands_up}
 use Rattle.apply.specs.Region.{Gives}
-use Rattle.apply.specs.declared.Applied.{Applied}
-use Rattle.apply.specs.declared.Applied.TheVariants.{Done as A-Done, Refused as A-Refused}
+use Rattle.apply.specs.Applied.{Applied}
+use Rattle.apply.specs.Applied.{Done as A-Done, Refused as A-Refused}
 use Rattle.apply.proofs.Hand.{Then, then_done, refuse_on, refuse_same}
 use Rattle.cores.specs.Terms.{core}
 use Rattle.supers.specs.Rows.{binders_in}
 use Rattle.scope.specs.Scope.{Scope}
 use Rattle.scope.proofs.Laws.{scope_kept, env_kept}
 use Rattle.pending.specs.Swept.{GivesRows}
-use Rattle.pending.specs.declared.Swept.{Swept}
-use Rattle.pending.specs.declared.Swept.TheVariants.{Done as S-Done, Refused as S-Refused}
+use Rattle.pending.specs.Swept.{Swept}
+use Rattle.pending.specs.Swept.{Done as S-Done, Refused as S-Refused}
 use Rattle.generalize.specs.Generalizes.{ReadyGeneralize, Known, Finalizes, GivesFinalized}
-use Rattle.generalize.specs.declared.Finalized.{Finalized}
-use Rattle.generalize.specs.declared.Finalized.TheVariants.{Done as F-Done, Refused as F-Refused}
+use Rattle.generalize.specs.Finalized.{Finalized}
+use Rattle.generalize.specs.Finalized.{Done as F-Done, Refused as F-Refused}
 use Rattle.inferred.specs.Closing.{answer_of}
 use Rattle.inferred.specs.Inferring.{state_of, ReadyI, GivesI}
-use Rattle.inferred.specs.declared.Inferred.{Inferred}
-use Rattle.inferred.specs.declared.Inferred.TheVariants.{Done as I-Done, Refused as I-Refused}
+use Rattle.inferred.specs.Inferred.{Inferred}
+use Rattle.inferred.specs.Inferred.{Done as I-Done, Refused as I-Refused}
 use Rattle.compose.proofs.Hand.{after-after}
 use Rattle.inferred.proofs.Ends.{rows_same}
 use Rattle.binding.specs.General.{AskedGeneral}
 use Rattle.infer.specs.Asking.{Asked}
 use Rattle.toplevel.specs.Parts.{check_end, check_rows, check_after}
 use Rattle.toplevel.specs.Tops.{ReadyRest, AnswerK, GivesK}
-use Rattle.toplevel.specs.declared.checks.Checked.{Checked}
-use Rattle.toplevel.specs.declared.checks.Checked.TheVariants.{Done, Refused}
+use Rattle.toplevel.specs.Checked.{Checked}
+use Rattle.toplevel.specs.Checked.{Done, Refused}
 use Rattle.toplevel.proofs.Moves.{swept, rows_moved, typed, type_moved}
 use Rattle.toplevel.proofs.Puts.{Under, Via}
 use Rattle.toplevel.proofs.Ways.{let_got, let_asked}

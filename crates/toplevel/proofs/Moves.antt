@@ -14,8 +14,8 @@ use Rattle.ast.proofs.Laws.{kept_tree, node_more}
 use Rattle.pairs.specs.Pairs.{sub_at, Stands}
 use Rattle.pairs.proofs.Frames.{stands_up, sub_stands}
 use Rattle.apply.specs.Region.{Ready, Grown, Gives}
-use Rattle.apply.specs.declared.Applied.{Applied}
-use Rattle.apply.specs.declared.Applied.TheVariants.{Done as A-Done}
+use Rattle.apply.specs.Applied.{Applied}
+use Rattle.apply.specs.Applied.{Done as A-Done}
 use Rattle.cores.specs.Terms.{core}
 use Rattle.cores.proofs.TermLaws.{kept_core}
 use Rattle.supers.specs.Rows.{row_at, binders_in}
@@ -24,8 +24,8 @@ use Rattle.resolve.proofs.Goals.{declared_kept}
 use Rattle.scope.specs.Scope.{env_of}
 use Rattle.scope.proofs.Laws.{scope_kept, env_kept}
 use Rattle.pending.specs.Swept.{ReadySweep, RowsSwept, GivesRows}
-use Rattle.pending.specs.declared.Swept.{Swept}
-use Rattle.pending.specs.declared.Swept.TheVariants.{Done as S-Done}
+use Rattle.pending.specs.Swept.{Swept}
+use Rattle.pending.specs.Swept.{Done as S-Done}
 use Rattle.inferred.specs.Closing.{answer_of}
 use Rattle.inferred.specs.Inferring.{state_of}
 use Rattle.inferred.proofs.Ends.{row_type, rows_later, rows_same, region_later}

@@ -22,17 +22,16 @@ use Rattle.supers.specs.Rows.{row_at, with_row, binders_from, binders_in}
 use Rattle.supers.specs.declared.rows.Row.{Row}
 use Rattle.supers.specs.declared.rows.Row.TheVariants.{Pending, Replaced}
 use Rattle.subst.specs.Schemes.{scheme_of_word}
-use Rattle.scope.specs.Scope.{entry_of, with_entry, scheme_in, env_of, EntryIn}
+use Rattle.scope.specs.Scope.{closed_entry, local_entry, entry_of, with_entry, scheme_in, env_of, EntryIn}
 use Rattle.scope.specs.declared.Entry.{Entry}
-use Rattle.scope.specs.declared.Entry.TheVariants.{Closed, Local}
 use Rattle.scope.proofs.Laws.{scope_row, scope_with}
 use Rattle.scope.proofs.States.{scope_inserts}
 use Rattle.pending.specs.Rows.{PendingRow}
 use Rattle.inferred.specs.Inferring.{state_of}
 use Rattle.toplevel.specs.Parts.{let_put, let_end}
 use Rattle.toplevel.specs.Tops.{Nothing, ReadyPut, ReadyEnd, AnswerB, EndsB, GivesB}
-use Rattle.toplevel.specs.declared.Bound.{Bound}
-use Rattle.toplevel.specs.declared.Bound.TheVariants.{Done, Refused}
+use Rattle.toplevel.specs.Bound.{Bound}
+use Rattle.toplevel.specs.Bound.{Done, Refused}
 
 -- ## Handing on
 
@@ -90,14 +89,14 @@ module _ {ns w ev od : List ℕ} {top x vs ps t : ℕ} (R : ReadyPut ns w ev od 
   })
 
   -- It is closed.
-  pub put_closed : {ev₁ : List ℕ} → true ≡ null (ftv_scheme (scheme_of_word ns w vs ps t)) → ev₁ ≡ with_entry ev x (Closed vs ps t)
+  pub put_closed : {ev₁ : List ℕ} → true ≡ null (ftv_scheme (scheme_of_word ns w vs ps t)) → ev₁ ≡ with_entry ev x (closed_entry vs ps t)
       → EndsB Nothing (λ _. let_put (name_of ns x) (scheme_of_word ns w vs ps t) (state_of ns w ev od tv dv) left) ns w ev₁ od top left tv dv (Done vs ps t top left tv dv)
-  put_closed c h = put_entry (Closed vs ps t) (record { held = R.held; closed = sym c }) (scope_inserts R.scope (state_of ns w ev od tv dv) refl x R.there left (Closed vs ps t) _ refl) h
+  put_closed c h = put_entry (closed_entry vs ps t) (record { held = R.held; closed = sym c }) (scope_inserts R.scope (state_of ns w ev od tv dv) refl x R.there left (closed_entry vs ps t) _ refl) h
 
   -- It may not be.
-  pub put_local : {ev₁ : List ℕ} → ev₁ ≡ with_entry ev x (Local vs ps t)
+  pub put_local : {ev₁ : List ℕ} → ev₁ ≡ with_entry ev x (local_entry vs ps t)
       → EndsB Nothing (λ _. let_put (name_of ns x) (scheme_of_word ns w vs ps t) (state_of ns w ev od tv dv) left) ns w ev₁ od top left tv dv (Done vs ps t top left tv dv)
-  put_local h = put_entry (Local vs ps t) R.held (scope_inserts R.scope (state_of ns w ev od tv dv) refl x R.there left (Local vs ps t) _ refl) h
+  put_local h = put_entry (local_entry vs ps t) R.held (scope_inserts R.scope (state_of ns w ev od tv dv) refl x R.there left (local_entry vs ps t) _ refl) h
 
 -- ## let_end
 

@@ -18,8 +18,8 @@ use Rattle.errors.specs.declared.Refusal.{Refusal}
 use Rattle.pairs.specs.Pairs.{sub_at}
 use Rattle.pairs.proofs.Frames.{stands_up}
 use Rattle.apply.specs.Region.{Gives}
-use Rattle.apply.specs.declared.Applied.{Applied}
-use Rattle.apply.specs.declared.Applied.TheVariants.{Done as A-Done, Refused as A-Refused}
+use Rattle.apply.specs.Applied.{Applied}
+use Rattle.apply.specs.Applied.{Done as A-Done, Refused as A-Refused}
 use Rattle.apply.proofs.Hand.{Then, then_done, refuse_on}
 use Rattle.cores.specs.Terms.{core}
 use Rattle.supers.specs.Rows.{binders_in}
@@ -28,15 +28,15 @@ use Rattle.subst.specs.Schemes.{scheme_of_word}
 use Rattle.scope.specs.Scope.{env_of}
 use Rattle.scope.proofs.Laws.{scope_kept, env_kept}
 use Rattle.pending.specs.Swept.{GivesRows}
-use Rattle.pending.specs.declared.Swept.{Swept}
-use Rattle.pending.specs.declared.Swept.TheVariants.{Done as S-Done, Refused as S-Refused}
+use Rattle.pending.specs.Swept.{Swept}
+use Rattle.pending.specs.Swept.{Done as S-Done, Refused as S-Refused}
 use Rattle.generalize.specs.Generalizes.{ReadyGeneralize, Known, Generalizes, GivesGeneralized}
-use Rattle.generalize.specs.declared.Generalized.{Generalized}
-use Rattle.generalize.specs.declared.Generalized.TheVariants.{Done as G-Done, Refused as G-Refused}
+use Rattle.generalize.specs.Generalized.{Generalized}
+use Rattle.generalize.specs.Generalized.{Done as G-Done, Refused as G-Refused}
 use Rattle.inferred.specs.Closing.{answer_of}
 use Rattle.inferred.specs.Inferring.{state_of, ReadyI, GrownI, GivesI}
-use Rattle.inferred.specs.declared.Inferred.{Inferred}
-use Rattle.inferred.specs.declared.Inferred.TheVariants.{Done as I-Done, Refused as I-Refused}
+use Rattle.inferred.specs.Inferred.{Inferred}
+use Rattle.inferred.specs.Inferred.{Done as I-Done, Refused as I-Refused}
 use Rattle.compose.proofs.Hand.{after-after}
 use Rattle.inferred.proofs.Ends.{rows_same}
 use Rattle.binding.specs.General.{AskedGeneral}
@@ -44,8 +44,8 @@ use Rattle.infer.specs.Asking.{Asked}
 use Rattle.resolve.proofs.Goals.{declared_kept}
 use Rattle.toplevel.specs.Parts.{let_put, let_end, let_general, let_typed, let_after}
 use Rattle.toplevel.specs.Tops.{Nothing, ReadyRest, ReadyEnd, EndsB, GivesB}
-use Rattle.toplevel.specs.declared.Bound.{Bound}
-use Rattle.toplevel.specs.declared.Bound.TheVariants.{Refused}
+use Rattle.toplevel.specs.Bound.{Bound}
+use Rattle.toplevel.specs.Bound.{Refused}
 use Rattle.infer.proofs.Standing.{inferred_fit}
 use Rattle.toplevel.proofs.Moves.{swept, rows_moved, typed, type_moved}
 use Rattle.toplevel.proofs.Puts.{bound_handed, bound_ended}

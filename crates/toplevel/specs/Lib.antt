@@ -1,2 +1,4 @@
+pub mod Checked
+pub mod Bound
 pub mod Parts
 pub mod Tops

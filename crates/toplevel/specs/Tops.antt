@@ -15,10 +15,10 @@ use Rattle.pending.specs.Rows.{PendingRows}
 use Rattle.canonical.specs.Named.{list_qual}
 use Rattle.inferred.specs.Closing.{Answered}
 use Rattle.inferred.specs.Inferring.{state_of, ReadyI}
-use Rattle.toplevel.specs.declared.Bound.{Bound}
-use Rattle.toplevel.specs.declared.Bound.TheVariants.{Done as B-Done, Refused as B-Refused}
-use Rattle.toplevel.specs.declared.checks.Checked.{Checked}
-use Rattle.toplevel.specs.declared.checks.Checked.TheVariants.{Done as C-Done, Refused as C-Refused}
+use Rattle.toplevel.specs.Bound.{Bound}
+use Rattle.toplevel.specs.Bound.{Done as B-Done, Refused as B-Refused}
+use Rattle.toplevel.specs.Checked.{Checked}
+use Rattle.toplevel.specs.Checked.{Done as C-Done, Refused as C-Refused}
 
 -- ## What is asked
 

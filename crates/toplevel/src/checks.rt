@@ -7,162 +7,142 @@ ghost use Rattle.binding.specs.General.{AskedGeneral};
 ghost use Rattle.infer.specs.Asking.{Asked};
 ghost use Rattle.toplevel.specs.Parts.{check_end, check_rows, check_after};
 ghost use Rattle.toplevel.specs.Tops.{ReadyRest, GivesK};
+ghost use Rattle.toplevel.specs.Checked.{checked_of};
 
-use apply::Applied;
-use errors::Refusal;
-use generalize::Finalized;
-use inferred::Inferred;
-use pending::Swept;
+use ast::{Base, Room};
+use errors::{DEPTH, Refusal};
+use inferred::Typed;
+use pairs::Subst;
+use resolve::Rules;
+use scope::{Env, Fresh};
+use views::File;
 
-// How deep types and expressions may be.
-const DEPTH: usize = 256;
-
-// Predicates, type and term, the first free node, the steps left and both counters; or a refusal with the first two.
+// What is said of an expression: its predicates, its type and its term; and the next variable's and dictionary's number.
 #[derive(Clone, Copy)]
-pub enum Checked {
-    Done(usize, usize, usize, usize, usize, usize, usize),
-    Refused(Refusal, usize, usize),
+pub struct Answer {
+    pub preds: usize,
+    pub ty: usize,
+    pub term: usize,
+    pub fresh: Fresh,
 }
 
 // Type, rows and term get their last form.
 fn check_end(
-    base: &[u64],
+    base: Base,
     work: &mut [u64],
-    names: &[u64],
-    classes: &[u64],
-    insts: &[u64],
-    order: &[u64],
-    env: &[u64],
+    room: &mut Room,
+    rules: Rules,
+    env: Env,
     binders: &mut [u64],
-    top: usize,
-    left: usize,
     sp: usize,
-    tv: usize,
-    dv: usize,
-    t: usize,
-    e: usize,
-    k: usize,
-    m: usize,
-) -> Checked
-    requires base_len_bound { length base.now ≤ 4 * top }
-    requires ready_rest { ReadyRest names.now (base.now ++ work.old) env.now order.now insts.now binders.old top left sp tv dv t e k m }
-    ensures { GivesK (AskedGeneral names.now classes.now (base.now ++ work.old) insts.now top (answer_of names.now (base.now ++ work.old) binders.old sp t e k m) (state_of names.now (base.now ++ work.old) env.now order.now tv dv)) (λ ce. check_end ce (answer_of names.now (base.now ++ work.old) binders.old sp t e k m) (state_of names.now (base.now ++ work.old) env.now order.now tv dv) left) names.now (base.now ++ work.old) (base.now ++ work.new)
-        env.now order.now binders.old binders.new top left sp tv dv result }
+    fresh: Fresh,
+    of: Typed,
+) -> Result<Answer, Refusal>
+    requires base_len_bound { length base.words.now ≤ 4 * room.old.top }
+    requires ready_rest { ReadyRest base.names.now (base.words.now ++ work.old) env.rows.now env.order.now rules.insts.now binders.old room.old.top room.old.left sp fresh.tv fresh.dv of.ty of.term of.pairs of.rows }
+    ensures { GivesK (AskedGeneral base.entry.names.now rules.entry.classes.now (base.entry.words.now ++ work.old) rules.entry.insts.now room.old.top (answer_of base.entry.names.now (base.entry.words.now ++ work.old) binders.old sp of.ty of.term of.pairs of.rows) (state_of base.entry.names.now (base.entry.words.now ++ work.old) env.entry.rows.now env.entry.order.now fresh.tv fresh.dv)) (λ ce. check_end ce (answer_of base.entry.names.now (base.entry.words.now ++ work.old) binders.old sp of.ty of.term of.pairs of.rows) (state_of base.entry.names.now (base.entry.words.now ++ work.old) env.entry.rows.now env.entry.order.now fresh.tv fresh.dv) room.old.left) base.entry.names.now (base.entry.words.now ++ work.old) (base.entry.words.now ++ work.new)
+        env.entry.rows.now env.entry.order.now binders.old binders.new room.old.top room.old.left sp fresh.tv fresh.dv (checked_of result room.new.top room.new.left) }
 {
-    let at = sp - 2 * k;
+    let at = sp - 2 * of.pairs;
     let f = generalize::finalize(
-        base, work, names, classes, insts, binders, top, left, at, m, t, e,
-    );
-    match f {
-        Finalized::Done(ps, u, c, t2, l2) => Checked::Done(ps, u, c, t2, l2, tv, dv),
-        Finalized::Refused(q, t2, l2) => Checked::Refused(q, t2, l2),
-    }
+        base, work, room, rules, binders, at, of.rows, of.ty, of.term,
+    )?;
+    Ok(Answer {
+        preds: f.preds,
+        ty: f.ty,
+        term: f.term,
+        fresh,
+    })
 }
 
-// The k pairs that end at sp are applied to the types of m rows.
+// The pairs, which end at sp, are applied to the types of the rows.
 fn check_rows(
-    base: &[u64],
+    base: Base,
     work: &mut [u64],
-    names: &[u64],
-    classes: &[u64],
-    insts: &[u64],
-    order: &[u64],
-    env: &[u64],
+    room: &mut Room,
+    rules: Rules,
+    env: Env,
     binders: &mut [u64],
-    top: usize,
-    left: usize,
     sp: usize,
-    tv: usize,
-    dv: usize,
-    t: usize,
-    e: usize,
-    k: usize,
-    m: usize,
-) -> Checked
-    requires base_len_bound { length base.now ≤ 4 * top }
-    requires ready_rest { ReadyRest names.now (base.now ++ work.old) env.now order.now insts.now binders.old top left sp tv dv t e k m }
-    ensures { GivesK (AskedGeneral names.now classes.now (base.now ++ work.old) insts.now top (answer_of names.now (base.now ++ work.old) binders.old sp t e k m) (state_of names.now (base.now ++ work.old) env.now order.now tv dv)) (λ ce. check_rows ce (answer_of names.now (base.now ++ work.old) binders.old sp t e k m) (state_of names.now (base.now ++ work.old) env.now order.now tv dv) left) names.now (base.now ++ work.old) (base.now ++ work.new)
-        env.now order.now binders.old binders.new top left sp tv dv result }
+    fresh: Fresh,
+    of: Typed,
+) -> Result<Answer, Refusal>
+    requires base_len_bound { length base.words.now ≤ 4 * room.old.top }
+    requires ready_rest { ReadyRest base.names.now (base.words.now ++ work.old) env.rows.now env.order.now rules.insts.now binders.old room.old.top room.old.left sp fresh.tv fresh.dv of.ty of.term of.pairs of.rows }
+    ensures { GivesK (AskedGeneral base.entry.names.now rules.entry.classes.now (base.entry.words.now ++ work.old) rules.entry.insts.now room.old.top (answer_of base.entry.names.now (base.entry.words.now ++ work.old) binders.old sp of.ty of.term of.pairs of.rows) (state_of base.entry.names.now (base.entry.words.now ++ work.old) env.entry.rows.now env.entry.order.now fresh.tv fresh.dv)) (λ ce. check_rows ce (answer_of base.entry.names.now (base.entry.words.now ++ work.old) binders.old sp of.ty of.term of.pairs of.rows) (state_of base.entry.names.now (base.entry.words.now ++ work.old) env.entry.rows.now env.entry.order.now fresh.tv fresh.dv) room.old.left) base.entry.names.now (base.entry.words.now ++ work.old) (base.entry.words.now ++ work.new)
+        env.entry.rows.now env.entry.order.now binders.old binders.new room.old.top room.old.left sp fresh.tv fresh.dv (checked_of result room.new.top room.new.left) }
 {
+    let k = of.pairs;
     let at = sp - 2 * k;
-    let s = pending::apply_rows(base, work, names, binders, top, left, at, k, m);
-    match s {
-        Swept::Done(t2, l2) => check_end(
-            base, work, names, classes, insts, order, env, binders, t2, l2, sp, tv, dv, t, e, k, m,
-        ),
-        Swept::Refused(q, t2, l2) => Checked::Refused(q, t2, l2),
-    }
+    pending::apply_rows(base, work, room, binders, Subst { at, k }, of.rows)?;
+    check_end(base, work, room, rules, env, binders, sp, fresh, of)
 }
 
-// And before that to the type t.
+// And before that to the type.
 fn check_after(
-    base: &[u64],
+    base: Base,
     work: &mut [u64],
-    names: &[u64],
-    classes: &[u64],
-    insts: &[u64],
-    order: &[u64],
-    env: &[u64],
+    room: &mut Room,
+    rules: Rules,
+    env: Env,
     binders: &mut [u64],
-    top: usize,
-    left: usize,
     sp: usize,
-    tv: usize,
-    dv: usize,
-    t: usize,
-    e: usize,
-    k: usize,
-    m: usize,
-) -> Checked
-    requires base_len_bound { length base.now ≤ 4 * top }
-    requires ready_rest { ReadyRest names.now (base.now ++ work.old) env.now order.now insts.now binders.old top left sp tv dv t e k m }
-    ensures { GivesK (AskedGeneral names.now classes.now (base.now ++ work.old) insts.now top (answer_of names.now (base.now ++ work.old) binders.old sp t e k m) (state_of names.now (base.now ++ work.old) env.now order.now tv dv)) (λ ce. check_after ce (answer_of names.now (base.now ++ work.old) binders.old sp t e k m) (state_of names.now (base.now ++ work.old) env.now order.now tv dv) left) names.now (base.now ++ work.old) (base.now ++ work.new)
-        env.now order.now binders.old binders.new top left sp tv dv result }
+    fresh: Fresh,
+    of: Typed,
+) -> Result<Answer, Refusal>
+    requires base_len_bound { length base.words.now ≤ 4 * room.old.top }
+    requires ready_rest { ReadyRest base.names.now (base.words.now ++ work.old) env.rows.now env.order.now rules.insts.now binders.old room.old.top room.old.left sp fresh.tv fresh.dv of.ty of.term of.pairs of.rows }
+    ensures { GivesK (AskedGeneral base.entry.names.now rules.entry.classes.now (base.entry.words.now ++ work.old) rules.entry.insts.now room.old.top (answer_of base.entry.names.now (base.entry.words.now ++ work.old) binders.old sp of.ty of.term of.pairs of.rows) (state_of base.entry.names.now (base.entry.words.now ++ work.old) env.entry.rows.now env.entry.order.now fresh.tv fresh.dv)) (λ ce. check_after ce (answer_of base.entry.names.now (base.entry.words.now ++ work.old) binders.old sp of.ty of.term of.pairs of.rows) (state_of base.entry.names.now (base.entry.words.now ++ work.old) env.entry.rows.now env.entry.order.now fresh.tv fresh.dv) room.old.left) base.entry.names.now (base.entry.words.now ++ work.old) (base.entry.words.now ++ work.new)
+        env.entry.rows.now env.entry.order.now binders.old binders.new room.old.top room.old.left sp fresh.tv fresh.dv (checked_of result room.new.top room.new.left) }
 {
+    let k = of.pairs;
     let at = sp - 2 * k;
-    let a = apply::apply(base, work, names, top, left, DEPTH, at, k, t);
-    match a {
-        Applied::Done(u, t2, l2) => check_rows(
-            base, work, names, classes, insts, order, env, binders, t2, l2, sp, tv, dv, u, e, k, m,
-        ),
-        Applied::Refused(q, t2, l2) => Checked::Refused(q, t2, l2),
-    }
+    let ty = apply::apply(base, work, room, DEPTH, Subst { at, k }, of.ty)?;
+    check_rows(
+        base,
+        work,
+        room,
+        rules,
+        env,
+        binders,
+        sp,
+        fresh,
+        Typed { ty, ..of },
+    )
 }
 
 // `check_expr`: the qualified type of expression i, and its term.
 pub fn check(
-    base: &[u64],
+    base: Base,
     work: &mut [u64],
-    names: &[u64],
-    src: &[u8],
-    index: &[u64],
-    classes: &[u64],
+    room: &mut Room,
+    file: File,
+    rules: Rules,
     methods: &[u64],
-    insts: &[u64],
     order: &[u64],
     env: &mut [u64],
     binders: &mut [u64],
-    top: usize,
-    left: usize,
     sp: usize,
-    tv: usize,
-    dv: usize,
+    fresh: Fresh,
     i: usize,
-) -> Checked
-    requires base_len_bound { length base.now ≤ 4 * top }
-    requires ready_i { ReadyI 0 0 0 names.now (base.now ++ work.old) env.old order.now insts.now binders.old top left sp tv dv }
-    ensures { GivesK (Asked src.now names.now index.now (base.now ++ work.old) classes.now methods.now insts.now env.old order.now top i) (λ p. check_expr p.0 p.1 (state_of names.now (base.now ++ work.old) env.old order.now tv dv) left) names.now (base.now ++ work.old) (base.now ++ work.new)
-        env.new order.now binders.old binders.new top left sp tv dv result }
+) -> Result<Answer, Refusal>
+    requires base_len_bound { length base.words.now ≤ 4 * room.old.top }
+    requires ready_i { ReadyI 0 0 0 base.names.now (base.words.now ++ work.old) env.old order.now rules.insts.now binders.old room.old.top room.old.left sp fresh.tv fresh.dv }
+    ensures { GivesK (Asked file.entry.src.now base.entry.names.now file.entry.index.now (base.entry.words.now ++ work.old) rules.entry.classes.now methods.now rules.entry.insts.now env.old order.now room.old.top i) (λ p. check_expr p.0 p.1 (state_of base.entry.names.now (base.entry.words.now ++ work.old) env.old order.now fresh.tv fresh.dv) room.old.left) base.entry.names.now (base.entry.words.now ++ work.old) (base.entry.words.now ++ work.new)
+        env.new order.now binders.old binders.new room.old.top room.old.left sp fresh.tv fresh.dv (checked_of result room.new.top room.new.left) }
 {
-    let q = infer::infer(
-        base, work, names, src, index, classes, methods, insts, order, env, binders, top, left,
-        DEPTH, sp, tv, dv, i,
-    );
-    match q {
-        Inferred::Done(t, e, k, m, t2, l2, tv2, dv2) => check_after(
-            base, work, names, classes, insts, order, env, binders, t2, l2, sp, tv2, dv2, t, e, k,
-            m,
-        ),
-        Inferred::Refused(q, t2, l2) => Checked::Refused(q, t2, l2),
-    }
+    let of = infer::infer(
+        base, work, room, file, rules, methods, order, env, binders, DEPTH, sp, fresh, i,
+    )?;
+    check_after(
+        base,
+        work,
+        room,
+        rules,
+        Env { rows: env, order },
+        binders,
+        sp,
+        of.fresh,
+        of,
+    )
 }

@@ -3,7 +3,7 @@
 
 pub mod checks;
 
-ghost use Rattle.std.specs.Prelude.{◌++◌, ◌*◌, ◌<◌, ◌≤◌, length};
+ghost use Rattle.std.specs.Prelude.{◌++◌, ◌*◌, ◌<◌, ◌≤◌, length, Ok};
 ghost use Rattle.meaning.specs.Declare.{process_let_decl};
 ghost use Rattle.names.specs.Names.{name_of};
 ghost use Rattle.supers.specs.Rows.{binders_in};
@@ -14,237 +14,214 @@ ghost use Rattle.binding.specs.General.{AskedGeneral};
 ghost use Rattle.infer.specs.Asking.{Asked};
 ghost use Rattle.toplevel.specs.Parts.{let_put, let_end, let_general, let_typed, let_after};
 ghost use Rattle.toplevel.specs.Tops.{Nothing, ReadyRest, ReadyPut, ReadyEnd, EndsB, GivesB};
+ghost use Rattle.toplevel.specs.Bound.{bound_of};
 
-use apply::Applied;
-use errors::Refusal;
-use generalize::Generalized;
-use inferred::Inferred;
-use pending::Swept;
-use scope::Entry;
+use ast::{Base, Room};
+use errors::{DEPTH, Refusal};
+use inferred::Typed;
+use pairs::Subst;
+use resolve::Rules;
+use scope::{Entry, Env, Fresh};
+use subst::Scheme;
 use supers::rows::Row;
+use views::File;
 
-// How deep types and expressions may be.
-const DEPTH: usize = 256;
-
-// A scheme's variables, predicates and type, the first free node, the steps left and both counters; or a refusal with the first two.
+// What a let comes to: its scheme, and the next variable's and the next dictionary's number.
 #[derive(Clone, Copy)]
-pub enum Bound {
-    Done(usize, usize, usize, usize, usize, usize, usize),
-    Refused(Refusal, usize, usize),
+pub struct Let {
+    pub scheme: Scheme,
+    pub fresh: Fresh,
 }
 
 // The scheme gets the row of name x, which says whether it is closed.
 fn let_put(
-    base: &[u64],
+    base: Base,
     work: &[u64],
-    names: &[u64],
+    room: Room,
     order: &[u64],
     env: &mut [u64],
-    top: usize,
-    left: usize,
-    tv: usize,
-    dv: usize,
+    fresh: Fresh,
     x: usize,
-    vs: usize,
-    ps: usize,
-    t: usize,
-) -> Bound
-    requires { ReadyPut names.now (base.now ++ work.now) env.old order.now top x vs ps t }
-    ensures { EndsB Nothing (λ _. let_put (name_of names.now x) (scheme_of_word names.now (base.now ++ work.now) vs ps t) (state_of names.now (base.now ++ work.now) env.old order.now tv dv) left) names.now (base.now ++ work.now) env.new order.now top left tv dv result }
+    scheme: Scheme,
+)
+    requires { ReadyPut base.names.now (base.words.now ++ work.now) env.old order.now room.top x scheme.vars scheme.preds scheme.ty }
+    ensures { EndsB Nothing (λ _. let_put (name_of base.entry.names.now x) (scheme_of_word base.entry.names.now (base.entry.words.now ++ work.now) scheme.vars scheme.preds scheme.ty) (state_of base.entry.names.now (base.entry.words.now ++ work.now) env.old order.now fresh.tv fresh.dv) room.left) base.entry.names.now (base.entry.words.now ++ work.now) env.new order.now room.top room.left fresh.tv fresh.dv (bound_of (Ok (record { scheme = scheme; fresh = fresh })) room.top room.left) }
 {
-    let c = subst::is_closed(base, work, names, top, vs, ps, t);
+    let c = subst::is_closed(base, work, room.top, scheme);
     if c {
-        scope::put(env, x, Entry::Closed(vs, ps, t));
-        return Bound::Done(vs, ps, t, top, left, tv, dv);
+        scope::put(env, x, Entry::Closed(scheme));
+    } else {
+        scope::put(env, x, Entry::Local(scheme));
     }
-    scope::put(env, x, Entry::Local(vs, ps, t));
-    Bound::Done(vs, ps, t, top, left, tv, dv)
 }
 
 // The same where none of nd rows is deferred; the first one that is has no instance.
 fn let_end(
-    base: &[u64],
+    base: Base,
     work: &[u64],
-    names: &[u64],
+    room: Room,
     order: &[u64],
     env: &mut [u64],
     binders: &[u64],
-    top: usize,
-    left: usize,
-    tv: usize,
-    dv: usize,
+    fresh: Fresh,
     x: usize,
-    vs: usize,
-    ps: usize,
-    t: usize,
+    scheme: Scheme,
     nd: usize,
-) -> Bound
-    requires { ReadyEnd names.now (base.now ++ work.now) env.old order.now binders.now top x vs ps t nd }
-    ensures { EndsB Nothing (λ _. let_end (name_of names.now x) (scheme_of_word names.now (base.now ++ work.now) vs ps t) (binders_in names.now (base.now ++ work.now) binders.now 0 nd) (state_of names.now (base.now ++ work.now) env.old order.now tv dv) left) names.now (base.now ++ work.now) env.new order.now top left tv dv result }
+) -> Result<Let, Refusal>
+    requires { ReadyEnd base.names.now (base.words.now ++ work.now) env.old order.now binders.now room.top x scheme.vars scheme.preds scheme.ty nd }
+    ensures { EndsB Nothing (λ _. let_end (name_of base.entry.names.now x) (scheme_of_word base.entry.names.now (base.entry.words.now ++ work.now) scheme.vars scheme.preds scheme.ty) (binders_in base.entry.names.now (base.entry.words.now ++ work.now) binders.now 0 nd) (state_of base.entry.names.now (base.entry.words.now ++ work.now) env.old order.now fresh.tv fresh.dv) room.left) base.entry.names.now (base.entry.words.now ++ work.now) env.new order.now room.top room.left fresh.tv fresh.dv (bound_of result room.top room.left) }
 {
     if nd == 0 {
-        return let_put(
-            base, work, names, order, env, top, left, tv, dv, x, vs, ps, t,
-        );
+        let_put(base, work, room, order, env, fresh, x, scheme);
+        return Ok(Let { scheme, fresh });
     }
     let q = supers::rows::row_at(binders, 0);
     match q {
-        Row::Pending(_, c, u) => Bound::Refused(Refusal::NoInstance(c, u), top, left),
-        Row::Replaced(_, _) => Bound::Refused(Refusal::Depth, top, left),
+        Row::Pending(_, c, u) => Err(Refusal::NoInstance(c, u)),
+        Row::Replaced(_, _) => Err(Refusal::Depth),
     }
 }
 
 // Type, rows and term are generalized.
 fn let_general(
-    base: &[u64],
+    base: Base,
     work: &mut [u64],
-    names: &[u64],
-    classes: &[u64],
-    insts: &[u64],
+    room: &mut Room,
+    rules: Rules,
     order: &[u64],
     env: &mut [u64],
     binders: &mut [u64],
-    top: usize,
-    left: usize,
     sp: usize,
-    tv: usize,
-    dv: usize,
+    fresh: Fresh,
     x: usize,
-    t: usize,
-    e: usize,
-    k: usize,
-    m: usize,
-) -> Bound
-    requires base_len_bound { length base.now ≤ 4 * top }
-    requires ready_rest { ReadyRest names.now (base.now ++ work.old) env.old order.now insts.now binders.old top left sp tv dv t e k m }
+    bound: Typed,
+) -> Result<Let, Refusal>
+    requires base_len_bound { length base.words.now ≤ 4 * room.old.top }
+    requires ready_rest { ReadyRest base.names.now (base.words.now ++ work.old) env.old order.now rules.insts.now binders.old room.old.top room.old.left sp fresh.tv fresh.dv bound.ty bound.term bound.pairs bound.rows }
     requires x_in_bounds { x < length order.now }
-    ensures { GivesB (AskedGeneral names.now classes.now (base.now ++ work.old) insts.now top (answer_of names.now (base.now ++ work.old) binders.old sp t e k m) (state_of names.now (base.now ++ work.old) env.old order.now tv dv)) (λ ce. let_general ce (name_of names.now x) (answer_of names.now (base.now ++ work.old) binders.old sp t e k m) (state_of names.now (base.now ++ work.old) env.old order.now tv dv) left) names.now (base.now ++ work.old) (base.now ++ work.new)
-        env.new order.now binders.old binders.new top left sp tv dv result }
+    ensures { GivesB (AskedGeneral base.entry.names.now rules.entry.classes.now (base.entry.words.now ++ work.old) rules.entry.insts.now room.old.top (answer_of base.entry.names.now (base.entry.words.now ++ work.old) binders.old sp bound.ty bound.term bound.pairs bound.rows) (state_of base.entry.names.now (base.entry.words.now ++ work.old) env.old order.now fresh.tv fresh.dv)) (λ ce. let_general ce (name_of base.entry.names.now x) (answer_of base.entry.names.now (base.entry.words.now ++ work.old) binders.old sp bound.ty bound.term bound.pairs bound.rows) (state_of base.entry.names.now (base.entry.words.now ++ work.old) env.old order.now fresh.tv fresh.dv) room.old.left) base.entry.names.now (base.entry.words.now ++ work.old) (base.entry.words.now ++ work.new)
+        env.new order.now binders.old binders.new room.old.top room.old.left sp fresh.tv fresh.dv (bound_of result room.new.top room.new.left) }
 {
-    let at = sp - 2 * k;
+    let at = sp - 2 * bound.pairs;
     let g = generalize::generalize(
-        base, work, names, classes, insts, env, order, binders, top, left, at, m, t, e,
-    );
-    match g {
-        Generalized::Done(vs, ps, u, _, nd, t2, l2) => let_end(
-            base, work, names, order, env, binders, t2, l2, tv, dv, x, vs, ps, u, nd,
-        ),
-        Generalized::Refused(q, t2, l2) => Bound::Refused(q, t2, l2),
-    }
+        base,
+        work,
+        room,
+        rules,
+        Env { rows: env, order },
+        binders,
+        at,
+        bound.rows,
+        bound.ty,
+        bound.term,
+    )?;
+    let_end(
+        base, work, *room, order, env, binders, fresh, x, g.scheme, g.deferred,
+    )
 }
 
-// The k pairs that end at sp are applied to the type t.
+// The pairs, which end at sp, are applied to the type.
 fn let_typed(
-    base: &[u64],
+    base: Base,
     work: &mut [u64],
-    names: &[u64],
-    classes: &[u64],
-    insts: &[u64],
+    room: &mut Room,
+    rules: Rules,
     order: &[u64],
     env: &mut [u64],
     binders: &mut [u64],
-    top: usize,
-    left: usize,
     sp: usize,
-    tv: usize,
-    dv: usize,
+    fresh: Fresh,
     x: usize,
-    t: usize,
-    e: usize,
-    k: usize,
-    m: usize,
-) -> Bound
-    requires base_len_bound { length base.now ≤ 4 * top }
-    requires ready_rest { ReadyRest names.now (base.now ++ work.old) env.old order.now insts.now binders.old top left sp tv dv t e k m }
+    bound: Typed,
+) -> Result<Let, Refusal>
+    requires base_len_bound { length base.words.now ≤ 4 * room.old.top }
+    requires ready_rest { ReadyRest base.names.now (base.words.now ++ work.old) env.old order.now rules.insts.now binders.old room.old.top room.old.left sp fresh.tv fresh.dv bound.ty bound.term bound.pairs bound.rows }
     requires x_in_bounds { x < length order.now }
-    ensures { GivesB (AskedGeneral names.now classes.now (base.now ++ work.old) insts.now top (answer_of names.now (base.now ++ work.old) binders.old sp t e k m) (state_of names.now (base.now ++ work.old) env.old order.now tv dv)) (λ ce. let_typed ce (name_of names.now x) (answer_of names.now (base.now ++ work.old) binders.old sp t e k m) (state_of names.now (base.now ++ work.old) env.old order.now tv dv) left) names.now (base.now ++ work.old) (base.now ++ work.new)
-        env.new order.now binders.old binders.new top left sp tv dv result }
+    ensures { GivesB (AskedGeneral base.entry.names.now rules.entry.classes.now (base.entry.words.now ++ work.old) rules.entry.insts.now room.old.top (answer_of base.entry.names.now (base.entry.words.now ++ work.old) binders.old sp bound.ty bound.term bound.pairs bound.rows) (state_of base.entry.names.now (base.entry.words.now ++ work.old) env.old order.now fresh.tv fresh.dv)) (λ ce. let_typed ce (name_of base.entry.names.now x) (answer_of base.entry.names.now (base.entry.words.now ++ work.old) binders.old sp bound.ty bound.term bound.pairs bound.rows) (state_of base.entry.names.now (base.entry.words.now ++ work.old) env.old order.now fresh.tv fresh.dv) room.old.left) base.entry.names.now (base.entry.words.now ++ work.old) (base.entry.words.now ++ work.new)
+        env.new order.now binders.old binders.new room.old.top room.old.left sp fresh.tv fresh.dv (bound_of result room.new.top room.new.left) }
 {
+    let k = bound.pairs;
     let at = sp - 2 * k;
-    let a = apply::apply(base, work, names, top, left, DEPTH, at, k, t);
-    match a {
-        Applied::Done(u, t2, l2) => let_general(
-            base, work, names, classes, insts, order, env, binders, t2, l2, sp, tv, dv, x, u, e, k,
-            m,
-        ),
-        Applied::Refused(q, t2, l2) => Bound::Refused(q, t2, l2),
-    }
+    let ty = apply::apply(base, work, room, DEPTH, Subst { at, k }, bound.ty)?;
+    let_general(
+        base,
+        work,
+        room,
+        rules,
+        order,
+        env,
+        binders,
+        sp,
+        fresh,
+        x,
+        Typed { ty, ..bound },
+    )
 }
 
-// And before that to the types of m rows.
+// And before that to the types of the rows.
 fn let_after(
-    base: &[u64],
+    base: Base,
     work: &mut [u64],
-    names: &[u64],
-    classes: &[u64],
-    insts: &[u64],
+    room: &mut Room,
+    rules: Rules,
     order: &[u64],
     env: &mut [u64],
     binders: &mut [u64],
-    top: usize,
-    left: usize,
     sp: usize,
-    tv: usize,
-    dv: usize,
+    fresh: Fresh,
     x: usize,
-    t: usize,
-    e: usize,
-    k: usize,
-    m: usize,
-) -> Bound
-    requires base_len_bound { length base.now ≤ 4 * top }
-    requires ready_rest { ReadyRest names.now (base.now ++ work.old) env.old order.now insts.now binders.old top left sp tv dv t e k m }
+    bound: Typed,
+) -> Result<Let, Refusal>
+    requires base_len_bound { length base.words.now ≤ 4 * room.old.top }
+    requires ready_rest { ReadyRest base.names.now (base.words.now ++ work.old) env.old order.now rules.insts.now binders.old room.old.top room.old.left sp fresh.tv fresh.dv bound.ty bound.term bound.pairs bound.rows }
     requires x_in_bounds { x < length order.now }
-    ensures { GivesB (AskedGeneral names.now classes.now (base.now ++ work.old) insts.now top (answer_of names.now (base.now ++ work.old) binders.old sp t e k m) (state_of names.now (base.now ++ work.old) env.old order.now tv dv)) (λ ce. let_after ce (name_of names.now x) (answer_of names.now (base.now ++ work.old) binders.old sp t e k m) (state_of names.now (base.now ++ work.old) env.old order.now tv dv) left) names.now (base.now ++ work.old) (base.now ++ work.new)
-        env.new order.now binders.old binders.new top left sp tv dv result }
+    ensures { GivesB (AskedGeneral base.entry.names.now rules.entry.classes.now (base.entry.words.now ++ work.old) rules.entry.insts.now room.old.top (answer_of base.entry.names.now (base.entry.words.now ++ work.old) binders.old sp bound.ty bound.term bound.pairs bound.rows) (state_of base.entry.names.now (base.entry.words.now ++ work.old) env.old order.now fresh.tv fresh.dv)) (λ ce. let_after ce (name_of base.entry.names.now x) (answer_of base.entry.names.now (base.entry.words.now ++ work.old) binders.old sp bound.ty bound.term bound.pairs bound.rows) (state_of base.entry.names.now (base.entry.words.now ++ work.old) env.old order.now fresh.tv fresh.dv) room.old.left) base.entry.names.now (base.entry.words.now ++ work.old) (base.entry.words.now ++ work.new)
+        env.new order.now binders.old binders.new room.old.top room.old.left sp fresh.tv fresh.dv (bound_of result room.new.top room.new.left) }
 {
+    let k = bound.pairs;
     let at = sp - 2 * k;
-    let s = pending::apply_rows(base, work, names, binders, top, left, at, k, m);
-    match s {
-        Swept::Done(t2, l2) => let_typed(
-            base, work, names, classes, insts, order, env, binders, t2, l2, sp, tv, dv, x, t, e, k,
-            m,
-        ),
-        Swept::Refused(q, t2, l2) => Bound::Refused(q, t2, l2),
-    }
+    pending::apply_rows(base, work, room, binders, Subst { at, k }, bound.rows)?;
+    let_typed(
+        base, work, room, rules, order, env, binders, sp, fresh, x, bound,
+    )
 }
 
 // `process_let_decl`: expression i is what name x is bound to.
 pub fn process_let(
-    base: &[u64],
+    base: Base,
     work: &mut [u64],
-    names: &[u64],
-    src: &[u8],
-    index: &[u64],
-    classes: &[u64],
+    room: &mut Room,
+    file: File,
+    rules: Rules,
     methods: &[u64],
-    insts: &[u64],
     order: &[u64],
     env: &mut [u64],
     binders: &mut [u64],
-    top: usize,
-    left: usize,
     sp: usize,
-    tv: usize,
-    dv: usize,
+    fresh: Fresh,
     x: usize,
     i: usize,
-) -> Bound
-    requires base_len_bound { length base.now ≤ 4 * top }
-    requires ready_i { ReadyI 0 0 0 names.now (base.now ++ work.old) env.old order.now insts.now binders.old top left sp tv dv }
+) -> Result<Let, Refusal>
+    requires base_len_bound { length base.words.now ≤ 4 * room.old.top }
+    requires ready_i { ReadyI 0 0 0 base.names.now (base.words.now ++ work.old) env.old order.now rules.insts.now binders.old room.old.top room.old.left sp fresh.tv fresh.dv }
     requires x_bound { x < 1_059 }
-    ensures { GivesB (Asked src.now names.now index.now (base.now ++ work.old) classes.now methods.now insts.now env.old order.now top i) (λ p. process_let_decl p.0 (name_of names.now x) p.1 (state_of names.now (base.now ++ work.old) env.old order.now tv dv) left) names.now (base.now ++ work.old) (base.now ++ work.new)
-        env.new order.now binders.old binders.new top left sp tv dv result }
+    ensures { GivesB (Asked file.entry.src.now base.entry.names.now file.entry.index.now (base.entry.words.now ++ work.old) rules.entry.classes.now methods.now rules.entry.insts.now env.old order.now room.old.top i) (λ p. process_let_decl p.0 (name_of base.entry.names.now x) p.1 (state_of base.entry.names.now (base.entry.words.now ++ work.old) env.old order.now fresh.tv fresh.dv) room.old.left) base.entry.names.now (base.entry.words.now ++ work.old) (base.entry.words.now ++ work.new)
+        env.new order.now binders.old binders.new room.old.top room.old.left sp fresh.tv fresh.dv (bound_of result room.new.top room.new.left) }
 {
-    let q = infer::infer(
-        base, work, names, src, index, classes, methods, insts, order, env, binders, top, left,
-        DEPTH, sp, tv, dv, i,
-    );
-    match q {
-        Inferred::Done(t, e, k, m, t2, l2, tv2, dv2) => let_after(
-            base, work, names, classes, insts, order, env, binders, t2, l2, sp, tv2, dv2, x, t, e,
-            k, m,
-        ),
-        Inferred::Refused(q, t2, l2) => Bound::Refused(q, t2, l2),
-    }
+    let bound = infer::infer(
+        base, work, room, file, rules, methods, order, env, binders, DEPTH, sp, fresh, i,
+    )?;
+    let_after(
+        base,
+        work,
+        room,
+        rules,
+        order,
+        env,
+        binders,
+        sp,
+        bound.fresh,
+        x,
+        bound,
+    )
 }

@@ -10,9 +10,10 @@ use Rattle.ast.specs.Table.{Table}
 use Rattle.views.specs.Numbers.{number_at}
 use Rattle.views.specs.TypeViews.{type_node_at}
 use Rattle.views.specs.declared.TypeNode.{TypeNode}
-use Rattle.views.specs.declared.TypeNode.TheVariants.{Var, Con, Arrow, Nothing}
+use Rattle.std.specs.Prelude.{Option as Option-of, Some, None}
+use Rattle.views.specs.declared.TypeNode.TheVariants.{Var, Con, Arrow}
 use Rattle.types.specs.Types.{args_of, of_node, type_of, part_of}
-use Rattle.types.specs.Taking.{Room}
+use Rattle.types.specs.Taking.{Fits}
 use Rattle.types.proofs.Decode.{type_at, part_is, part_none}
 
 module _ (bytes ix ns ns' : List ℕ) where
@@ -23,12 +24,12 @@ module _ (bytes ix ns ns' : List ℕ) where
   args_size ty ty' h p (suc k) = let a = h (number_at bytes p) in let b = args_size ty ty' h (p + 2) k in omega (arith, a, b)
 
   -- Of a node.
-  node_size : (ty ty' : ℕ → Ty) → ((j : ℕ) → size (ty j) ≡ size (ty' j)) → (r : TypeNode) → size (of_node bytes ns ix ty r) ≡ size (of_node bytes ns' ix ty' r)
+  node_size : (ty ty' : ℕ → Ty) → ((j : ℕ) → size (ty j) ≡ size (ty' j)) → (r : Option-of TypeNode) → size (of_node bytes ns ix ty r) ≡ size (of_node bytes ns' ix ty' r)
   unfolding size
-  node_size ty ty' h (Var x) = refl
-  node_size ty ty' h (Con c p k) = ap suc (args_size ty ty' h p k)
-  node_size ty ty' h (Arrow a b) = let x = h a in let y = h b in omega (arith, x, y)
-  node_size ty ty' h Nothing = refl
+  node_size ty ty' h (Some (Var x)) = refl
+  node_size ty ty' h (Some (Con c p k)) = ap suc (args_size ty ty' h p k)
+  node_size ty ty' h (Some (Arrow a b)) = let x = h a in let y = h b in omega (arith, x, y)
+  node_size ty ty' h None = refl
 
   -- Of a part.
   part_size : (i j : ℕ) → (j < i → size (type_of bytes ns ix j) ≡ size (type_of bytes ns' ix j)) → size (part_of bytes ns ix i j) ≡ size (part_of bytes ns' ix i j)
@@ -53,5 +54,5 @@ same_size bytes ix ns ns' i = sizes_below bytes ix ns ns' (suc i) i (omega arith
 
 -- Room over one table of names is room over all.
 pub any_room : {w : List ℕ} {top : ℕ} (bytes ix ns : List ℕ) (i : ℕ) → Table w top → 4 * top + 8 * size (type_of bytes ns ix i) ≤ length w
-    → Room w top (λ (ns' : List ℕ). size (type_of bytes ns' ix i))
+    → Fits w top (λ (ns' : List ℕ). size (type_of bytes ns' ix i))
 any_room bytes ix ns i T h = record { table = T; room = λ ns'. let e = same_size bytes ix ns ns' i in omega arith }

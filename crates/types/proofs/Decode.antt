@@ -15,7 +15,8 @@ use Rattle.reader.specs.Placing.{upto}
 use Rattle.views.specs.Numbers.{number_at, Named, NamedAll}
 use Rattle.views.specs.TypeViews.{type_node_at, TypeAs, IsType}
 use Rattle.views.specs.declared.TypeNode.{TypeNode}
-use Rattle.views.specs.declared.TypeNode.TheVariants.{Var, Con, Arrow, Nothing}
+use Rattle.std.specs.Prelude.{Option as Option-of, Some, None}
+use Rattle.views.specs.declared.TypeNode.TheVariants.{Var, Con, Arrow}
 use Rattle.views.proofs.Earlier.{named_smaller, named_whole}
 use Rattle.views.proofs.TypeLaws.{type_there}
 use Rattle.file.specs.Reading.{Indexed}
@@ -59,25 +60,25 @@ module _ (bytes ns ix : List ℕ) where
       go false e = refl
 
 -- What `type_at` returned, by the arm of the match.
-module _ {bytes ix : List ℕ} {i : ℕ} {r : TypeNode} (T : IsType bytes ix i r) (ns : List ℕ) where
+module _ {bytes ix : List ℕ} {i : ℕ} {r : Option-of TypeNode} (T : IsType bytes ix i r) (ns : List ℕ) where
   -- The type by what was returned.
   type_of_lem : type_of bytes ns ix i ≡ of_node bytes ns ix (part_of bytes ns ix i) r
   type_of_lem = rw T.exact (type_at bytes ns ix i)
 
   -- A variable.
-  pub type_var : {x : ℕ} → r ≡ Var x → type_of bytes ns ix i ≡ var (named (name_of ns (row_of ix x)))
+  pub type_var : {x : ℕ} → r ≡ Some (Var x) → type_of bytes ns ix i ≡ var (named (name_of ns (row_of ix x)))
   type_var k = rw k at type_of_lem
 
   -- A constructor and its arguments.
-  pub type_con : {c p k : ℕ} → r ≡ Con c p k → type_of bytes ns ix i ≡ con (name_of ns (row_of ix c)) (parts_of bytes ns ix i p k)
+  pub type_con : {c p k : ℕ} → r ≡ Some (Con c p k) → type_of bytes ns ix i ≡ con (name_of ns (row_of ix c)) (parts_of bytes ns ix i p k)
   type_con k = rw k at type_of_lem
 
   -- An arrow of its two sides.
-  pub type_arrow : {a b : ℕ} → r ≡ Arrow a b → type_of bytes ns ix i ≡ arrow (part_of bytes ns ix i a) (part_of bytes ns ix i b)
+  pub type_arrow : {a b : ℕ} → r ≡ Some (Arrow a b) → type_of bytes ns ix i ≡ arrow (part_of bytes ns ix i a) (part_of bytes ns ix i b)
   type_arrow k = rw k at type_of_lem
 
   -- No node.
-  pub type_nothing : r ≡ Nothing → type_of bytes ns ix i ≡ no_type ns
+  pub type_nothing : r ≡ None → type_of bytes ns ix i ≡ no_type ns
   type_nothing k = rw k at type_of_lem
 
 -- ## rows of the table of names
@@ -135,11 +136,11 @@ module _ {bytes ns ix : List ℕ} {f : M.File} {a b c d : ℕ} (X : Indexed byte
         cc
 
     -- The type by what `views` shows of it.
-    node_so : (r : TypeNode) (u : Ty) → TypeAs bytes f.names (upto i f.types) u r → of_node bytes ns ix (part_of bytes ns ix i) r ≡ u
-    node_so (Var x) u T = ap (λ n. var (named n)) (name_is x T.name T.named_so) ∙ sym T.is
-    node_so (Con q p k) u T = let n = name_is q T.name T.named_so in let t = args_so T.arguments p k T.each in let s = T.is in cc
-    node_so (Arrow x y) u T = let l = part_so x T.left T.left_so in let r = part_so y T.right T.right_so in let s = T.is in cc
-    node_so Nothing u T = absurd T
+    node_so : (r : Option-of TypeNode) (u : Ty) → TypeAs bytes f.names (upto i f.types) u r → of_node bytes ns ix (part_of bytes ns ix i) r ≡ u
+    node_so (Some (Var x)) u T = ap (λ n. var (named n)) (name_is x T.name T.named_so) ∙ sym T.is
+    node_so (Some (Con q p k)) u T = let n = name_is q T.name T.named_so in let t = args_so T.arguments p k T.each in let s = T.is in cc
+    node_so (Some (Arrow x y)) u T = let l = part_so x T.left T.left_so in let r = part_so y T.right T.right_so in let s = T.is in cc
+    node_so None u T = absurd T
 
   -- Every type below the bound n.
   types_so : (n i : ℕ) (u : Ty) → i < n → nth f.types i ≡ some u → type_of bytes ns ix i ≡ u

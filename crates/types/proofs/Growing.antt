@@ -14,15 +14,15 @@ use Rattle.pairs.proofs.Frames.{stands_then, stands_up, pushed_stands}
 use Rattle.views.specs.Numbers.{number_at}
 use Rattle.views.specs.TypeViews.{IsType}
 use Rattle.views.specs.declared.TypeNode.{TypeNode}
+use Rattle.std.specs.Prelude.{Option as Option-of, Some}
 use Rattle.views.specs.declared.TypeNode.TheVariants.{Con, Arrow}
-use Rattle.types.specs.declared.Taken.{Taken}
 use Rattle.types.specs.Types.{row_of, type_of, part_of, parts_of}
-use Rattle.types.specs.Taking.{Room, Takes}
+use Rattle.types.specs.Taking.{Taken, Fits, Takes}
 use Rattle.types.proofs.Decode.{type_con, type_arrow}
 use Rattle.types.proofs.Counting.{con_size, arrow_size, parts_cons, sizes_cons}
 
 -- There is room for node t, which is no older than top.
-pub record Fits (w : List ℕ) (top t : ℕ) : Type 0 where
+pub record Behind (w : List ℕ) (top t : ℕ) : Type 0 where
   pub more : top ≤ t
   pub room : 4 * t + 4 ≤ length w
   pub small : t < first_node
@@ -36,10 +36,10 @@ both_stand : {w w₁ w₂ : List ℕ} {top t u : ℕ} → Stands w w₁ top (4 *
 both_stand S U m n = stands_then (stands_up S (omega arith)) U m
 
 -- ## a constructor, after its arguments
-module _ {bytes ix : List ℕ} {i : ℕ} {r : TypeNode} (T : IsType bytes ix i r) {w : List ℕ} {top : ℕ} (R : Room w top (λ (ns : List ℕ). size (type_of bytes ns ix i))) {c p k : ℕ} (arm : r ≡ Con c p k)
+module _ {bytes ix : List ℕ} {i : ℕ} {r : Option-of TypeNode} (T : IsType bytes ix i r) {w : List ℕ} {top : ℕ} (R : Fits w top (λ (ns : List ℕ). size (type_of bytes ns ix i))) {c p k : ℕ} (arm : r ≡ Some (Con c p k))
     {w₁ : List ℕ} {l : Taken} (G : Takes list sizes 0 w w₁ top (λ (ns : List ℕ). parts_of bytes ns ix i p k) l) (len : length w₁ ≡ length w) (big : length w < 2 ^ 65) where
   -- There is room for its node.
-  pub con_fits : Fits w₁ top l.top
+  pub con_fits : Behind w₁ top l.top
   con_fits =
       let z = con_size T [] arm in let h = R.room [] in let g = G.spent [] in
       record { more = G.more; room = omega arith; small = omega arith }
@@ -58,15 +58,15 @@ module _ {bytes ix : List ℕ} {i : ℕ} {r : TypeNode} (T : IsType bytes ix i r
       }
 
 -- ## an arrow, after its left side
-module _ {bytes ix : List ℕ} {i : ℕ} {r : TypeNode} (T : IsType bytes ix i r) {w : List ℕ} {top : ℕ} (R : Room w top (λ (ns : List ℕ). size (type_of bytes ns ix i))) {a b : ℕ} (arm : r ≡ Arrow a b)
+module _ {bytes ix : List ℕ} {i : ℕ} {r : Option-of TypeNode} (T : IsType bytes ix i r) {w : List ℕ} {top : ℕ} (R : Fits w top (λ (ns : List ℕ). size (type_of bytes ns ix i))) {a b : ℕ} (arm : r ≡ Some (Arrow a b))
     {w₁ : List ℕ} {x : Taken} (G : Takes tree size 4 w w₁ top (λ (ns : List ℕ). part_of bytes ns ix i a) x) where
   -- Room for the right side.
-  pub right_room : length w₁ ≡ length w → Room w₁ x.top (λ (ns : List ℕ). size (part_of bytes ns ix i b))
+  pub right_room : length w₁ ≡ length w → Fits w₁ x.top (λ (ns : List ℕ). size (part_of bytes ns ix i b))
   right_room len = record { table = G.node.table; room = λ ns. let z = arrow_size T ns arm in let h = R.room ns in let g = G.spent ns in omega arith }
 
   module _ {w₂ : List ℕ} {y : Taken} (H : Takes tree size 4 w₁ w₂ x.top (λ (ns : List ℕ). part_of bytes ns ix i b) y) (len : length w₂ ≡ length w) (big : length w < 2 ^ 65) where
     -- There is room for its node.
-    pub arrow_fits : Fits w₂ top y.top
+    pub arrow_fits : Behind w₂ top y.top
     arrow_fits =
         let z = arrow_size T [] arm in let h = R.room [] in let g = G.spent [] in let k = H.spent [] in let m = G.more in let n = H.more in
         record { more = omega arith; room = omega arith; small = omega arith }
@@ -89,15 +89,15 @@ module _ {bytes ix : List ℕ} {i : ℕ} {r : TypeNode} (T : IsType bytes ix i r
         }
 
 -- ## arguments, after the first
-module _ (bytes ix : List ℕ) (i p k j : ℕ) (some : k ≡ 0 → ⊥) (e : j ≡ number_at bytes p) {w : List ℕ} {top : ℕ} (R : Room w top (λ (ns : List ℕ). sizes (parts_of bytes ns ix i p k)))
+module _ (bytes ix : List ℕ) (i p k j : ℕ) (some : k ≡ 0 → ⊥) (e : j ≡ number_at bytes p) {w : List ℕ} {top : ℕ} (R : Fits w top (λ (ns : List ℕ). sizes (parts_of bytes ns ix i p k)))
     {w₁ : List ℕ} {x : Taken} (G : Takes tree size 4 w w₁ top (λ (ns : List ℕ). part_of bytes ns ix i j) x) where
   -- Room for the others.
-  pub rest_room : length w₁ ≡ length w → Room w₁ x.top (λ (ns : List ℕ). sizes (parts_of bytes ns ix i (p + 2) (k - 1)))
+  pub rest_room : length w₁ ≡ length w → Fits w₁ x.top (λ (ns : List ℕ). sizes (parts_of bytes ns ix i (p + 2) (k - 1)))
   rest_room len = record { table = G.node.table; room = λ ns. let z = sizes_cons bytes ns ix i p k j some e in let h = R.room ns in let g = G.spent ns in omega arith }
 
   module _ {w₂ : List ℕ} {y : Taken} (H : Takes list sizes 0 w₁ w₂ x.top (λ (ns : List ℕ). parts_of bytes ns ix i (p + 2) (k - 1)) y) (len : length w₂ ≡ length w) (big : length w < 2 ^ 65) where
     -- There is room for the cell.
-    pub cell_fits : Fits w₂ top y.top
+    pub cell_fits : Behind w₂ top y.top
     cell_fits =
         let z = sizes_cons bytes [] ix i p k j some e in let h = R.room [] in let g = G.spent [] in let q = H.spent [] in let m = G.more in let n = H.more in
         record { more = omega arith; room = omega arith; small = omega arith }

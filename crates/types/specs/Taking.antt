@@ -2,10 +2,17 @@
 use Rattle.std.specs.Prelude.{◌≡◌, List, ℕ, ◌+◌, ◌*◌, ◌≤◌, length}
 use Rattle.ast.specs.Table.{Table, Node}
 use Rattle.pairs.specs.Pairs.{Stands}
-use Rattle.types.specs.declared.Taken.{Taken}
+
+-- A word, and the first free node.
+pub record Taken : Type 0 where
+  pub word : ℕ
+  pub top : ℕ
+
+abbrev pub taken : ℕ → ℕ → Taken
+taken word top = record { word = word; top = top }
 
 -- There is a table, and room behind it for 8 words a node. The size is the same over all names.
-pub record Room (w : List ℕ) (top : ℕ) (size : List ℕ → ℕ) : Type 0 where
+pub record Fits (w : List ℕ) (top : ℕ) (size : List ℕ → ℕ) : Type 0 where
   pub table : Table w top
   pub room : (ns : List ℕ) → 4 * top + 8 * size ns ≤ length w
 

@@ -1,5 +1,5 @@
 -- Types of a session file by their numbers, whatever file and index hold.
-use Rattle.std.specs.Prelude.{◌≡◌, List, ℕ, zero, suc, ◌+◌, get_or}
+use Rattle.std.specs.Prelude.{◌≡◌, List, ℕ, zero, suc, ◌+◌, get_or, Option, Some, None}
 use Rattle.std.proofs.Math.Option.{some}
 use Rattle.meaning.specs.Base.{if, ltb, nth}
 use Rattle.meaning.specs.Ast.{named, Ty, Tys, var, con, arrow, nil, ◌◂◌}
@@ -8,7 +8,7 @@ use Rattle.names.specs.Names.{name_of}
 use Rattle.views.specs.Numbers.{number_at}
 use Rattle.views.specs.TypeViews.{type_node_at}
 use Rattle.views.specs.declared.TypeNode.{TypeNode}
-use Rattle.views.specs.declared.TypeNode.TheVariants.{Var, Con, Arrow, Nothing}
+use Rattle.views.specs.declared.TypeNode.TheVariants.{Var, Con, Arrow}
 use Rattle.file.specs.Reading.{Indexed}
 
 -- The number in the table of names of the file's name v; 0 where the index has no row's number for it.
@@ -25,11 +25,11 @@ args_of ty bytes p zero = nil
 args_of ty bytes p (suc k) = ty (number_at bytes p) ◂ args_of ty bytes (p + 2) k
 
 -- A type by its node and by what the numbers in it stand for.
-abbrev pub of_node : List ℕ → List ℕ → List ℕ → (ℕ → Ty) → TypeNode → Ty
-of_node bytes ns ix ty (Var x) = var (named (name_of ns (row_of ix x)))
-of_node bytes ns ix ty (Con c p k) = con (name_of ns (row_of ix c)) (args_of ty bytes p k)
-of_node bytes ns ix ty (Arrow a b) = arrow (ty a) (ty b)
-of_node bytes ns ix ty Nothing = no_type ns
+abbrev pub of_node : List ℕ → List ℕ → List ℕ → (ℕ → Ty) → Option TypeNode → Ty
+of_node bytes ns ix ty (Some (Var x)) = var (named (name_of ns (row_of ix x)))
+of_node bytes ns ix ty (Some (Con c p k)) = con (name_of ns (row_of ix c)) (args_of ty bytes p k)
+of_node bytes ns ix ty (Some (Arrow a b)) = arrow (ty a) (ty b)
+of_node bytes ns ix ty None = no_type ns
 
 -- Type i, as deep as the fuel goes. A part whose number is not smaller is no type.
 unfoldable pub type_f : ℕ → List ℕ → List ℕ → List ℕ → ℕ → Ty

@@ -7,23 +7,10 @@ ghost use Rattle.meaning.specs.Ast.{size, sizes};
 ghost use Rattle.ast.specs.Table.{tree, list};
 ghost use Rattle.types.specs.Types.{row_of, type_of, part_of, parts_of};
 ghost use Rattle.types.specs.Sizes.{Measured};
-ghost use Rattle.types.specs.Taking.{Room, Takes};
+ghost use Rattle.types.specs.Taking.{Fits, Takes, taken};
 
-use views::TypeNode;
-
-// How many nodes, or more than the limit.
-#[derive(Clone, Copy)]
-pub enum Sized {
-    Is(usize),
-    Over,
-}
-
-// A word and the first free node.
-#[derive(Clone, Copy)]
-pub struct Taken {
-    pub word: usize,
-    pub top: usize,
-}
+use ast::{Base, Room};
+use views::{File, TypeNode};
 
 // The number in the table of names of the file's name v.
 fn row_of(index: &[u64], v: usize) -> usize
@@ -36,178 +23,131 @@ fn row_of(index: &[u64], v: usize) -> usize
     0
 }
 
-// How many nodes type i is as a tree.
+// How many nodes type i is as a tree; none where they are more than the limit.
 #[cycle(part_within_parts_within_size_within)]
-pub fn size_within(src: &[u8], index: &[u64], i: usize, limit: usize) -> Sized
-    ensures { Measured (λ (ns : List ℕ). size (type_of src.now ns index.now i)) limit result }
+pub fn size_within(file: File, i: usize, limit: usize) -> Option<usize>
+    ensures { Measured (λ (ns : List ℕ). size (type_of file.entry.src.now ns file.entry.index.now i)) limit result }
 {
-    if limit == 0 {
-        return Sized::Over;
-    }
-    let t = views::type_at(src, index, i);
-    match t {
-        TypeNode::Var(_) => Sized::Is(1),
+    let left = limit.checked_sub(1)?;
+    let Some(node) = views::type_at(file, i) else {
+        return Some(1);
+    };
+    match node {
+        TypeNode::Var(_) => Some(1),
         TypeNode::Con(_, p, k) => {
-            let x = parts_within(src, index, i, p, k, limit - 1);
-            match x {
-                Sized::Is(n) => Sized::Is(n + 1),
-                Sized::Over => Sized::Over,
-            }
+            let n = parts_within(file, i, p, k, left)?;
+            Some(n + 1)
         }
         TypeNode::Arrow(a, b) => {
-            let x = part_within(src, index, i, a, limit - 1);
-            match x {
-                Sized::Is(m) => {
-                    let y = part_within(src, index, i, b, limit - 1 - m);
-                    match y {
-                        Sized::Is(n) => Sized::Is(m + n + 1),
-                        Sized::Over => Sized::Over,
-                    }
-                }
-                Sized::Over => Sized::Over,
-            }
+            let m = part_within(file, i, a, left)?;
+            let n = part_within(file, i, b, left - m)?;
+            Some(m + n + 1)
         }
-        TypeNode::Nothing => Sized::Is(1),
     }
 }
 
 // The same for the type of number j in type i.
 #[cycle(part_within_parts_within_size_within)]
-fn part_within(src: &[u8], index: &[u64], i: usize, j: usize, limit: usize) -> Sized
-    ensures { Measured (λ (ns : List ℕ). size (part_of src.now ns index.now i j)) limit result }
+fn part_within(file: File, i: usize, j: usize, limit: usize) -> Option<usize>
+    ensures { Measured (λ (ns : List ℕ). size (part_of file.entry.src.now ns file.entry.index.now i j)) limit result }
 {
     if j < i {
-        return size_within(src, index, j, limit);
+        return size_within(file, j, limit);
     }
     if limit == 0 {
-        return Sized::Over;
+        return None;
     }
-    Sized::Is(1)
+    Some(1)
 }
 
 // The same for the k arguments from the place p on in type i, all together.
 #[cycle(part_within_parts_within_size_within)]
-fn parts_within(src: &[u8], index: &[u64], i: usize, p: usize, k: usize, limit: usize) -> Sized
-    requires { p + 2 * k ≤ length src.now + 132 }
-    ensures { Measured (λ (ns : List ℕ). sizes (parts_of src.now ns index.now i p k)) limit result }
+fn parts_within(file: File, i: usize, p: usize, k: usize, limit: usize) -> Option<usize>
+    requires { p + 2 * k ≤ length file.src.now + 132 }
+    ensures { Measured (λ (ns : List ℕ). sizes (parts_of file.entry.src.now ns file.entry.index.now i p k)) limit result }
 {
-    if k == 0 {
-        return Sized::Is(0);
+    let mut count = 0;
+    for j in 0..k {
+        let n = part_within(
+            file,
+            i,
+            views::number_at(file.src, p + 2 * j),
+            limit - count,
+        )?;
+        count += n;
     }
-    let x = part_within(src, index, i, views::number_at(src, p), limit);
-    match x {
-        Sized::Is(m) => {
-            let y = parts_within(src, index, i, p + 2, k - 1, limit - m);
-            match y {
-                Sized::Is(n) => Sized::Is(m + n),
-                Sized::Over => Sized::Over,
-            }
-        }
-        Sized::Over => Sized::Over,
-    }
+    Some(count)
 }
 
-// Takes type i into the table, as a tree.
+// Takes type i into the table, as a tree, and answers its word.
 #[cycle(take_part_take_parts_take_type)]
-pub fn take_type(
-    base: &[u64],
-    work: &mut [u64],
-    src: &[u8],
-    index: &[u64],
-    top: usize,
-    i: usize,
-) -> Taken
-    requires base_len_bound { length base.now ≤ 4 * top }
-    requires room { Room (base.now ++ work.old) top (λ (ns : List ℕ). size (type_of src.now ns index.now i)) }
-    ensures { Takes tree size 4 (base.now ++ work.old) (base.now ++ work.new) top
-        (λ (ns : List ℕ). type_of src.now ns index.now i) result }
+pub fn take_type(base: Base, work: &mut [u64], file: File, room: &mut Room, i: usize) -> usize
+    requires base_len_bound { length base.words.now ≤ 4 * room.old.top }
+    requires fits { Fits (base.words.now ++ work.old) room.old.top (λ (ns : List ℕ). size (type_of file.src.now ns file.index.now i)) }
+    ensures takes { Takes tree size 4 (base.entry.words.now ++ work.old) (base.entry.words.now ++ work.new) room.old.top
+        (λ (ns : List ℕ). type_of file.entry.src.now ns file.entry.index.now i) (taken result room.new.top) }
+    ensures left { room.new.left ≡ room.old.left }
 {
-    let t = views::type_at(src, index, i);
-    match t {
-        TypeNode::Var(x) => Taken {
-            word: row_of(index, x),
-            top,
-        },
+    let Some(node) = views::type_at(file, i) else {
+        return 0;
+    };
+    match node {
+        TypeNode::Var(x) => row_of(file.index, x),
         TypeNode::Con(c, p, k) => {
-            let n = row_of(index, c);
+            let n = row_of(file.index, c);
             if k == 0 {
-                return Taken {
-                    word: names::NULLARY + n,
-                    top,
-                };
+                return names::NULLARY + n;
             }
-            let l = take_parts(base, work, src, index, top, i, p, k);
-            ast::push(base, work, l.top, 1, n, l.word);
-            Taken {
-                word: names::NODE + l.top,
-                top: l.top + 1,
-            }
+            let arguments = take_parts(base, work, file, room, i, p, k);
+            ast::add(base, work, room, ast::CON, n, arguments)
         }
         TypeNode::Arrow(a, b) => {
-            let x = take_part(base, work, src, index, top, i, a);
-            let y = take_part(base, work, src, index, x.top, i, b);
-            ast::push(base, work, y.top, 2, x.word, y.word);
-            Taken {
-                word: names::NODE + y.top,
-                top: y.top + 1,
-            }
+            let from = take_part(base, work, file, room, i, a);
+            let to = take_part(base, work, file, room, i, b);
+            ast::add(base, work, room, ast::ARROW, from, to)
         }
-        TypeNode::Nothing => Taken { word: 0, top },
     }
 }
 
 // Takes the type of number j in type i.
 #[cycle(take_part_take_parts_take_type)]
-fn take_part(
-    base: &[u64],
-    work: &mut [u64],
-    src: &[u8],
-    index: &[u64],
-    top: usize,
-    i: usize,
-    j: usize,
-) -> Taken
-    requires base_len_bound { length base.now ≤ 4 * top }
-    requires room { Room (base.now ++ work.old) top (λ (ns : List ℕ). size (part_of src.now ns index.now i j)) }
-    ensures { Takes tree size 4 (base.now ++ work.old) (base.now ++ work.new) top
-        (λ (ns : List ℕ). part_of src.now ns index.now i j) result }
+fn take_part(base: Base, work: &mut [u64], file: File, room: &mut Room, i: usize, j: usize) -> usize
+    requires base_len_bound { length base.words.now ≤ 4 * room.old.top }
+    requires fits { Fits (base.words.now ++ work.old) room.old.top (λ (ns : List ℕ). size (part_of file.src.now ns file.index.now i j)) }
+    ensures takes { Takes tree size 4 (base.entry.words.now ++ work.old) (base.entry.words.now ++ work.new) room.old.top
+        (λ (ns : List ℕ). part_of file.entry.src.now ns file.entry.index.now i j) (taken result room.new.top) }
+    ensures left { room.new.left ≡ room.old.left }
 {
     if j < i {
-        return take_type(base, work, src, index, top, j);
+        return take_type(base, work, file, room, j);
     }
-    Taken { word: 0, top }
+    0
 }
 
-// Takes the k arguments from the place p on in type i, as a list.
+// Takes the k arguments from the place p on in type i, as a list. (By recursion: a list's cells are written from its end,
+// after all arguments.)
 #[cycle(take_part_take_parts_take_type)]
 fn take_parts(
-    base: &[u64],
+    base: Base,
     work: &mut [u64],
-    src: &[u8],
-    index: &[u64],
-    top: usize,
+    file: File,
+    room: &mut Room,
     i: usize,
     p: usize,
     k: usize,
-) -> Taken
-    requires base_len_bound { length base.now ≤ 4 * top }
-    requires k_in_bounds { p + 2 * k ≤ length src.now + 132 }
-    requires room { Room (base.now ++ work.old) top (λ (ns : List ℕ). sizes (parts_of src.now ns index.now i p k)) }
-    ensures { Takes list sizes 0 (base.now ++ work.old) (base.now ++ work.new) top
-        (λ (ns : List ℕ). parts_of src.now ns index.now i p k) result }
+) -> usize
+    requires base_len_bound { length base.words.now ≤ 4 * room.old.top }
+    requires k_in_bounds { p + 2 * k ≤ length file.src.now + 132 }
+    requires fits { Fits (base.words.now ++ work.old) room.old.top (λ (ns : List ℕ). sizes (parts_of file.src.now ns file.index.now i p k)) }
+    ensures takes { Takes list sizes 0 (base.entry.words.now ++ work.old) (base.entry.words.now ++ work.new) room.old.top
+        (λ (ns : List ℕ). parts_of file.entry.src.now ns file.entry.index.now i p k) (taken result room.new.top) }
+    ensures left { room.new.left ≡ room.old.left }
 {
     if k == 0 {
-        return Taken {
-            word: ast::NIL,
-            top,
-        };
+        return ast::NIL;
     }
-    let j = views::number_at(src, p);
-    let x = take_part(base, work, src, index, top, i, j);
-    let y = take_parts(base, work, src, index, x.top, i, p + 2, k - 1);
-    ast::push(base, work, y.top, 3, x.word, y.word);
-    Taken {
-        word: names::NODE + y.top,
-        top: y.top + 1,
-    }
+    let j = views::number_at(file.src, p);
+    let first = take_part(base, work, file, room, i, j);
+    let rest = take_parts(base, work, file, room, i, p + 2, k - 1);
+    ast::add(base, work, room, ast::CONS, first, rest)
 }

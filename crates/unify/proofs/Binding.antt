@@ -18,8 +18,8 @@ use Rattle.ast.specs.declared.Shape.TheVariants.{Var, Con, Arrow}
 use Rattle.ast.proofs.Laws.{kept_tree, kept_table, tree_var, tree_con, tree_arrow}
 use Rattle.errors.specs.declared.Refusal.TheVariants.{OccursCheck}
 use Rattle.pairs.specs.Pairs.{sub_at}
-use Rattle.apply.specs.declared.Applied.{Applied}
-use Rattle.apply.specs.declared.Applied.TheVariants.{Done, Refused}
+use Rattle.apply.specs.Applied.{Applied}
+use Rattle.apply.specs.Applied.{Done, Refused}
 use Rattle.compose.specs.Answers.{GivesU}
 use Rattle.unify.specs.Unify.{Binds}
 use Rattle.pairs.proofs.Frames.{stands_refl, put_length}

@@ -8,8 +8,8 @@ use Rattle.meaning.specs.Subst.{Subst}
 use Rattle.errors.specs.Refusals.{refusal_of, InTable, Refuses}
 use Rattle.errors.specs.declared.Refusal.{Refusal}
 use Rattle.pairs.specs.Pairs.{Stands}
-use Rattle.apply.specs.declared.Applied.{Applied}
-use Rattle.apply.specs.declared.Applied.TheVariants.{Refused}
+use Rattle.apply.specs.Applied.{Applied}
+use Rattle.apply.specs.Applied.{Refused}
 use Rattle.compose.specs.Answers.{GivesU}
 use Rattle.pairs.proofs.Frames.{stands_refl}
 use Rattle.compose.proofs.Hand.{on as handed}

@@ -8,3 +8,4 @@ pub mod Zip
 pub mod Sides
 pub mod Ways
 pub mod Means
+pub mod Seen

@@ -13,8 +13,8 @@ use Rattle.theorems.proofs.Ordered.{Sorted}
 use Rattle.theorems.proofs.Theorems.{unify_sound, unify_general, unify_complete, unify_in_order}
 use Rattle.errors.specs.Refusals.{refusal_of}
 use Rattle.pairs.specs.Pairs.{sub_at}
-use Rattle.apply.specs.declared.Applied.{Applied}
-use Rattle.apply.specs.declared.Applied.TheVariants.{Done, Refused}
+use Rattle.apply.specs.Applied.{Applied}
+use Rattle.apply.specs.Applied.{Done, Refused}
 use Rattle.compose.specs.Answers.{GivesU}
 
 abbrev pub Unifies : List ℕ → List ℕ → Ty → Ty → ℕ → Applied → Type 0

@@ -10,8 +10,8 @@ use Rattle.ast.specs.Table.{tree}
 use Rattle.ast.proofs.Laws.{kept_tree, node_more}
 use Rattle.errors.specs.declared.Refusal.{Refusal}
 use Rattle.pairs.specs.Pairs.{sub_at}
-use Rattle.apply.specs.declared.Applied.{Applied}
-use Rattle.apply.specs.declared.Applied.TheVariants.{Done, Refused}
+use Rattle.apply.specs.Applied.{Applied}
+use Rattle.apply.specs.Applied.{Done, Refused}
 use Rattle.compose.specs.Answers.{GivesU, ReadyOne, ReadyArrow}
 use Rattle.unify.specs.Unify.{unify_one}
 use Rattle.unify.proofs.Outcomes.{arrow_one}

@@ -11,13 +11,13 @@ use Rattle.ast.specs.Table.{tree}
 use Rattle.errors.specs.Refusals.{Refuses}
 use Rattle.errors.specs.declared.Refusal.{Refusal}
 use Rattle.pairs.specs.Pairs.{sub_at, Stands}
-use Rattle.apply.specs.declared.Applied.{Applied}
-use Rattle.apply.specs.declared.Applied.TheVariants.{Done, Refused}
+use Rattle.apply.specs.Applied.{Applied}
+use Rattle.apply.specs.Applied.{Done, Refused}
 use Rattle.compose.specs.Compose.{Both, AnswerSub, GivesSub}
 use Rattle.compose.specs.Answers.{AnswerU, GivesU, ReadyU, ReadyOne, ReadyJoin}
 use Rattle.unify.specs.Unify.{apply_two, unify_one, GrownTwo, GivesTwo}
-use Rattle.unify.specs.declared.Two.{Two}
-use Rattle.unify.specs.declared.Two.TheVariants.{Done as Two-Done, Refused as Two-Refused}
+use Rattle.unify.specs.Two.{Two}
+use Rattle.unify.specs.Two.{Done as Two-Done, Refused as Two-Refused}
 use Rattle.pairs.proofs.Frames.{stands_then, stands_up, sub-later, sub_stands}
 use Rattle.unify.proofs.Hand.{refuses_on, on, because}
 use Rattle.compose.proofs.Hand.{got, lost}

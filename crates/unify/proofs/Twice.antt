@@ -11,12 +11,12 @@ use Rattle.ast.proofs.Laws.{kept_tree, node_more}
 use Rattle.errors.specs.Refusals.{Refuses}
 use Rattle.errors.specs.declared.Refusal.{Refusal}
 use Rattle.pairs.specs.Pairs.{sub_at, Stands}
-use Rattle.apply.specs.declared.Applied.{Applied}
-use Rattle.apply.specs.declared.Applied.TheVariants.{Done, Refused}
+use Rattle.apply.specs.Applied.{Applied}
+use Rattle.apply.specs.Applied.{Done, Refused}
 use Rattle.apply.specs.Region.{Ready, Grown, Gives}
 use Rattle.compose.specs.Answers.{ReadyOne}
 use Rattle.unify.specs.Unify.{apply_two, GivesTwo}
-use Rattle.unify.specs.declared.Two.TheVariants.{Done as Two-Done, Refused as Two-Refused}
+use Rattle.unify.specs.Two.{Done as Two-Done, Refused as Two-Refused}
 use Rattle.pairs.proofs.Frames.{stands_then, stands_up, sub-later, sub_stands}
 use Rattle.unify.proofs.Outcomes.{apply_spends}
 use Rattle.unify.proofs.Hand.{refuses_on}

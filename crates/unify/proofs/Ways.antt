@@ -10,8 +10,8 @@ use Rattle.ast.specs.declared.Shape.{Shape}
 use Rattle.ast.specs.declared.Shape.TheVariants.{Var, Con, Arrow}
 use Rattle.ast.proofs.Laws.{tree_var, tree_con, tree_arrow, con_child, arrow_left, arrow_right}
 use Rattle.errors.specs.declared.Refusal.TheVariants.{Depth, Steps, UnificationFailure}
-use Rattle.apply.specs.declared.Applied.{Applied}
-use Rattle.apply.specs.declared.Applied.TheVariants.{Refused}
+use Rattle.apply.specs.Applied.{Applied}
+use Rattle.apply.specs.Applied.{Refused}
 use Rattle.compose.specs.Answers.{GivesU, ReadyU, ReadyArrow}
 use Rattle.unify.specs.Unify.{Binds}
 use Rattle.pairs.proofs.Frames.{stands_refl}
@@ -24,8 +24,8 @@ module _ {ns w : List ℕ} {top left sp m n : ℕ} (R : ReadyU ns w top left sp 
   un_deep e = refuses Depth (unify_deep _ _ _ _ e) tt (omega arith)
 
   -- No step is left.
-  pub un_spent : (depth ≡ 0 → ⊥) → left ≡ 0 → GivesU 1 0 ns w w top left sp (unify_in depth (tree ns w m) (tree ns w n) left) (Refused Steps top 0)
-  un_spent p e = refuses Steps (unify_spent _ _ _ _ p e) tt (omega arith)
+  pub un_spent : (depth ≡ 0 → ⊥) → left ≡ 0 → GivesU 1 0 ns w w top left sp (unify_in depth (tree ns w m) (tree ns w n) left) (Refused Steps top left)
+  un_spent p e = refuses Steps (unify_spent _ _ _ _ p e ∙ rw e) tt (omega arith)
 
   module _ (dp : depth ≡ 0 → ⊥) (lp : left ≡ 0 → ⊥) where
     -- What `unify` does then.

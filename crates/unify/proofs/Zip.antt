@@ -18,8 +18,8 @@ use Rattle.ast.proofs.Laws.{kept_list, node_more, list_nil, list_cons, cons_head
 use Rattle.errors.specs.declared.Refusal.{Refusal}
 use Rattle.errors.specs.declared.Refusal.TheVariants.{ConMismatch, ArityMismatch}
 use Rattle.pairs.specs.Pairs.{sub_at}
-use Rattle.apply.specs.declared.Applied.{Applied}
-use Rattle.apply.specs.declared.Applied.TheVariants.{Done, Refused}
+use Rattle.apply.specs.Applied.{Applied}
+use Rattle.apply.specs.Applied.{Done, Refused}
 use Rattle.compose.specs.Answers.{GivesU, ReadyU, ReadyOne}
 use Rattle.unify.specs.Unify.{unify_one}
 use Rattle.pairs.proofs.Frames.{stands_refl}

@@ -7,8 +7,8 @@ use Rattle.names.specs.Names.{Names}
 use Rattle.ast.specs.Table.{tree, Node}
 use Rattle.errors.specs.Refusals.{Refuses}
 use Rattle.pairs.specs.Pairs.{Stands}
-use Rattle.unify.specs.declared.Two.{Two}
-use Rattle.unify.specs.declared.Two.TheVariants.{Done as Two-Done, Refused as Two-Refused}
+use Rattle.unify.specs.Two.{Two}
+use Rattle.unify.specs.Two.{Done as Two-Done, Refused as Two-Refused}
 
 -- A substitution applied to two types, the left one first.
 unfoldable pub apply_two : Subst → Ty → Ty → Steps (Ty × Ty)

@@ -5,60 +5,56 @@ ghost use Rattle.names.specs.Names.{tyvar_of};
 ghost use Rattle.ast.specs.Table.{tree};
 ghost use Rattle.compose.specs.Answers.{GivesU};
 ghost use Rattle.unify.specs.Unify.{Binds};
+ghost use Rattle.apply.specs.Applied.{applied_of};
 
-use apply::Applied;
-use ast::Shape;
+use ast::{Base, Room, Shape};
 use errors::Refusal;
 
 // `bind` of a variable to a type that is another one.
 fn bind_other(
-    base: &[u64],
+    base: Base,
     work: &mut [u64],
-    names: &[u64],
-    top: usize,
-    left: usize,
+    room: &mut Room,
     sp: usize,
     v: usize,
     t: usize,
-) -> Applied
-    requires base_len_bound { length base.now ≤ 4 * top }
-    requires binds { Binds names.now (base.now ++ work.old) top left sp t }
-    ensures { GivesU 0 2 names.now (base.now ++ work.old) (base.now ++ work.new) top left sp
-        (U.bind_other (tyvar_of names.now v) (tree names.now (base.now ++ work.old) t) left) result }
+) -> Result<usize, Refusal>
+    requires base_len_bound { length base.words.now ≤ 4 * room.old.top }
+    requires binds { Binds base.names.now (base.words.now ++ work.old) room.old.top room.old.left sp t }
+    ensures { GivesU 0 2 base.entry.names.now (base.entry.words.now ++ work.old) (base.entry.words.now ++ work.new) room.old.top room.old.left sp
+        (U.bind_other (tyvar_of base.entry.names.now v) (tree base.entry.names.now (base.entry.words.now ++ work.old) t) room.old.left) (applied_of result room.new.top room.new.left) }
 {
-    if ast::occurs_in(base, work, names, top, v, t) {
-        return Applied::Refused(Refusal::OccursCheck(v, t), top, left);
+    if ast::occurs_in(base, work, room.top, v, t) {
+        return Err(Refusal::OccursCheck(v, t));
     }
     pairs::put(base, work, sp - 2, v);
     pairs::put(base, work, sp - 1, t);
-    Applied::Done(1, top, left)
+    Ok(1)
 }
 
 // `bind`: a variable against itself needs nothing.
 pub fn bind(
-    base: &[u64],
+    base: Base,
     work: &mut [u64],
-    names: &[u64],
-    top: usize,
-    left: usize,
+    room: &mut Room,
     sp: usize,
     v: usize,
     t: usize,
-) -> Applied
-    requires base_len_bound { length base.now ≤ 4 * top }
-    requires binds { Binds names.now (base.now ++ work.old) top left sp t }
-    ensures { GivesU 0 2 names.now (base.now ++ work.old) (base.now ++ work.new) top left sp
-        (U.bind (tyvar_of names.now v) (tree names.now (base.now ++ work.old) t) left) result }
+) -> Result<usize, Refusal>
+    requires base_len_bound { length base.words.now ≤ 4 * room.old.top }
+    requires binds { Binds base.names.now (base.words.now ++ work.old) room.old.top room.old.left sp t }
+    ensures { GivesU 0 2 base.entry.names.now (base.entry.words.now ++ work.old) (base.entry.words.now ++ work.new) room.old.top room.old.left sp
+        (U.bind (tyvar_of base.entry.names.now v) (tree base.entry.names.now (base.entry.words.now ++ work.old) t) room.old.left) (applied_of result room.new.top room.new.left) }
 {
     let s = ast::shape_at(base, work, t);
     match s {
         Shape::Var(x) => {
             if v == x {
-                return Applied::Done(0, top, left);
+                return Ok(0);
             }
-            bind_other(base, work, names, top, left, sp, v, t)
+            bind_other(base, work, room, sp, v, t)
         }
-        Shape::Con(_, _) => bind_other(base, work, names, top, left, sp, v, t),
-        Shape::Arrow(_, _) => bind_other(base, work, names, top, left, sp, v, t),
+        Shape::Con(_, _) => bind_other(base, work, room, sp, v, t),
+        Shape::Arrow(_, _) => bind_other(base, work, room, sp, v, t),
     }
 }

@@ -9,13 +9,13 @@ use Rattle.meaning.specs.Ast.{Name, named, Ty, Pred, pred}
 use Rattle.meaning.specs.Reader.{got, Reader, onward, from, one_of, list_of, pair}
 use Rattle.meaning.specs.File.{word, class_entry, pred_entry, instance_entry, let_entry, check_entry, decl_entry}
 use Rattle.theorems.proofs.Grown.{nth_below}
-use Rattle.reader.specs.declared.Field.TheVariants.{Is, Cut}
+use Rattle.std.specs.Prelude.{Option as Option-of, Some, None}
 use Rattle.reader.specs.Verdicts.{IsField}
 use Rattle.views.specs.declared.Listed.{Listed}
 use Rattle.views.specs.declared.DeclNode.{DeclNode}
-use Rattle.views.specs.declared.DeclNode.TheVariants.{Class, Instance, Let, Check, Nothing}
+use Rattle.views.specs.declared.DeclNode.TheVariants.{Class, Instance, Let, Check}
 use Rattle.views.specs.Numbers.{number_at, CountRead, Named, NamedAll, NamedRows}
-use Rattle.views.specs.DeclViews.{Pairs, Preds, EntryRead, IsDecl}
+use Rattle.views.specs.DeclViews.{ListRead, Pairs, Preds, EntryRead, IsDecl}
 use Rattle.views.proofs.Onward.{read_is, by_number, Moves, Went, went, one_of_moves, variable_moves, word_moves, tag_chose, tag_below, tag_there}
 use Rattle.views.proofs.Listings.{numbers_went, row_reader, row_moves, rows_went}
 
@@ -43,18 +43,16 @@ pred_moves bytes ns ts = row_moves bytes ns ts (λ (u : Pred). u.class) (λ (u :
 
 -- ## classes and instances
 module _ (bytes : List ℕ) (at : ℕ) where
-  pub class_is : (c a : ℕ) (s g d : Listed) → c ≡ number_at bytes at → a ≡ number_at bytes (at + 2) → s.at ≡ at + 6 → CountRead bytes (at + 4) s.count
-      → g.at ≡ at + 6 + 2 * s.count + 2 → CountRead bytes (at + 6 + 2 * s.count) g.count
-      → d.at ≡ at + 6 + 2 * s.count + 2 + 4 * g.count + 2 → CountRead bytes (at + 6 + 2 * s.count + 2 + 4 * g.count) d.count
-      → EntryRead class_entry bytes at (Class c a s g d)
+  pub class_is : (c a : ℕ) (s g d : Listed) → c ≡ number_at bytes at → a ≡ number_at bytes (at + 2) → ListRead bytes (at + 4) s → ListRead bytes (s.at + 2 * s.count) g
+      → ListRead bytes (g.at + 4 * g.count) d → EntryRead class_entry bytes at (Some (Class c a s g d))
   unfolding class_entry
-  class_is c a s g d ec ea es cs eg cg ed cd = record {
+  class_is c a s g d ec ea ls lg ld = record {
     is = λ ns ts xs x next rest e.
         let n = went (one_of_moves ns bytes) _ at (at + 2) x next rest refl e in
         let v = went (variable_moves ns bytes) _ (at + 2) (at + 4) x next rest (omega arith) n.then in
-        let p = numbers_went bytes ns _ (at + 4) (at + 6 + 2 * s.count) s.count x next rest cs (omega arith) v.then in
-        let q = pairs_went bytes ns ts g _ (at + 6 + 2 * s.count) (at + 6 + 2 * s.count + 2 + 4 * g.count) x next rest eg cg refl p.then in
-        let r = pairs_went bytes ns xs d _ (at + 6 + 2 * s.count + 2 + 4 * g.count) _ x next rest ed cd refl q.then in
+        let p = numbers_went bytes ns _ (at + 4) (s.at + 2 * s.count) s.count x next rest ls.counted (let y = ls.first in omega arith) v.then in
+        let q = pairs_went bytes ns ts g _ (s.at + 2 * s.count) (g.at + 4 * g.count) x next rest lg.first lg.counted (let y = lg.first in omega arith) p.then in
+        let r = pairs_went bytes ns xs d _ (g.at + 4 * g.count) _ x next rest ld.first ld.counted refl q.then in
         record {
           decl = record { name = n.value; tyvar = named v.value; supers = p.value; sigs = q.value; defaults = r.value };
           variable = v.value;
@@ -62,21 +60,20 @@ module _ (bytes : List ℕ) (at : ℕ) where
           tyvar = refl;
           name_so = by_number ec n.such;
           variable_so = by_number ea v.such;
-          supers_so = subst (λ m. NamedAll bytes ns m s.count p.value) (let y : at + 4 + 2 ≡ s.at = omega (arith, es) in y) p.such;
+          supers_so = subst (λ m. NamedAll bytes ns m s.count p.value) (sym ls.first) p.such;
           sigs_so = q.such;
           defaults_so = r.such;
         };
   }
 
-  pub instance_is : (x : Listed) (c t : ℕ) (m : Listed) → x.at ≡ at + 2 → CountRead bytes at x.count → c ≡ number_at bytes (at + 2 + 4 * x.count)
-      → t ≡ number_at bytes (at + 2 + 4 * x.count + 2) → m.at ≡ at + 2 + 4 * x.count + 6 → CountRead bytes (at + 2 + 4 * x.count + 4) m.count
-      → EntryRead instance_entry bytes at (Instance x c t m)
+  pub instance_is : (x : Listed) (c t : ℕ) (m : Listed) → ListRead bytes at x → c ≡ number_at bytes (x.at + 4 * x.count)
+      → t ≡ number_at bytes (x.at + 4 * x.count + 2) → ListRead bytes (x.at + 4 * x.count + 4) m → EntryRead instance_entry bytes at (Some (Instance x c t m))
   unfolding instance_entry
-  instance_is x c t m ex cx ec et em cm = record {
+  instance_is x c t m lx ec et lm = record {
     is = λ ns ts xs d next rest e.
-        let p = preds_went bytes ns ts x _ at (at + 2 + 4 * x.count) d next rest ex cx refl e in
-        let h = went (pred_moves bytes ns ts) _ (at + 2 + 4 * x.count) (at + 2 + 4 * x.count + 4) d next rest refl p.then in
-        let r = pairs_went bytes ns xs m _ (at + 2 + 4 * x.count + 4) _ d next rest (omega (arith, em)) cm refl h.then in
+        let p = preds_went bytes ns ts x _ at (x.at + 4 * x.count) d next rest lx.first lx.counted (let y = lx.first in omega arith) e in
+        let h = went (pred_moves bytes ns ts) _ (x.at + 4 * x.count) (x.at + 4 * x.count + 4) d next rest refl p.then in
+        let r = pairs_went bytes ns xs m _ (x.at + 4 * x.count + 4) _ d next rest lm.first lm.counted refl h.then in
         record {
           decl = record { context = p.value; head = h.value; methods = r.value };
           is = read_is _ d _ next _ rest r.then;
@@ -88,16 +85,16 @@ module _ (bytes : List ℕ) (at : ℕ) where
   }
 
 -- ## by the tag
-module _ (bytes : List ℕ) (at tag : ℕ) (f : IsField 1 bytes at (Is tag)) where
-  pub decl_class : (r : DeclNode) → tag ≡ 0 → EntryRead class_entry bytes (at + 1) r → EntryRead decl_entry bytes at r
+module _ (bytes : List ℕ) (at tag : ℕ) (f : IsField 1 bytes at (Some tag)) where
+  pub decl_class : (r : Option-of DeclNode) → tag ≡ 0 → EntryRead class_entry bytes (at + 1) r → EntryRead decl_entry bytes at r
   unfolding decl_entry nth
   decl_class r z g = record { is = λ ns ts es d next rest e. g.is ns ts es d next rest (tag_chose bytes _ at d next rest e (class_entry ns ts es) tag f (rw z refl)) }
 
-  pub decl_instance : (r : DeclNode) → tag ≡ 1 → EntryRead instance_entry bytes (at + 1) r → EntryRead decl_entry bytes at r
+  pub decl_instance : (r : Option-of DeclNode) → tag ≡ 1 → EntryRead instance_entry bytes (at + 1) r → EntryRead decl_entry bytes at r
   unfolding decl_entry nth
   decl_instance r z g = record { is = λ ns ts es d next rest e. g.is ns ts es d next rest (tag_chose bytes _ at d next rest e (instance_entry ns ts es) tag f (rw z refl)) }
 
-  pub decl_let : (x b : ℕ) → tag ≡ 2 → x ≡ number_at bytes (at + 1) → b ≡ number_at bytes (at + 3) → EntryRead decl_entry bytes at (Let x b)
+  pub decl_let : (x b : ℕ) → tag ≡ 2 → x ≡ number_at bytes (at + 1) → b ≡ number_at bytes (at + 3) → EntryRead decl_entry bytes at (Some (Let x b))
   unfolding decl_entry let_entry nth
   decl_let x b z h j = record {
     is = λ ns ts es d next rest e.
@@ -106,7 +103,7 @@ module _ (bytes : List ℕ) (at tag : ℕ) (f : IsField 1 bytes at (Is tag)) whe
         record { name = w.value; bound = l.value; name_so = by_number h w.such; bound_so = by_number j l.such; is = read_is _ d _ next _ rest l.then };
   }
 
-  pub decl_check : (b : ℕ) → tag ≡ 3 → b ≡ number_at bytes (at + 1) → EntryRead decl_entry bytes at (Check b)
+  pub decl_check : (b : ℕ) → tag ≡ 3 → b ≡ number_at bytes (at + 1) → EntryRead decl_entry bytes at (Some (Check b))
   unfolding decl_entry check_entry nth
   decl_check b z h = record {
     is = λ ns ts es d next rest e.
@@ -115,16 +112,16 @@ module _ (bytes : List ℕ) (at tag : ℕ) (f : IsField 1 bytes at (Is tag)) whe
   }
 
   -- The definition knows no other tag.
-  pub decl_unknown : 4 ≤ tag → EntryRead decl_entry bytes at Nothing
+  pub decl_unknown : 4 ≤ tag → EntryRead decl_entry bytes at None
   unfolding decl_entry count
   decl_unknown z = record { is = λ ns ts es d next rest e. let b = tag_below bytes _ at d next rest e tag f in omega (arith, b, z) }
 
-pub decl_cut : (bytes : List ℕ) (at : ℕ) → IsField 1 bytes at Cut → EntryRead decl_entry bytes at Nothing
+pub decl_cut : (bytes : List ℕ) (at : ℕ) → IsField 1 bytes at None → EntryRead decl_entry bytes at None
 unfolding decl_entry
 decl_cut bytes at f = record { is = λ ns ts es d next rest e. tag_there bytes _ at d next rest e f }
 
 -- The index has the place of declaration i.
-pub decl_placed : (bytes ix : List ℕ) (i p : ℕ) (r : DeclNode) → p ≡ get_or ix (10_240 + i) 0 → EntryRead decl_entry bytes p r → IsDecl bytes ix i r
+pub decl_placed : (bytes ix : List ℕ) (i p : ℕ) (r : Option-of DeclNode) → p ≡ get_or ix (10_240 + i) 0 → EntryRead decl_entry bytes p r → IsDecl bytes ix i r
 decl_placed bytes ix i p r e g = record {
   is = λ ns ts es ds at end d h n.
       (subst (λ q. EntryRead decl_entry bytes q r) (e ∙ h.word i (nth_below ds i d n)) g).is ns ts es d _ _ (h.item i d n);

@@ -8,22 +8,28 @@ use Rattle.meaning.specs.Base.{ltb, count, nth}
 use Rattle.meaning.specs.Errors.{limit}
 use Rattle.meaning.specs.Reader.{got, Reader, onward, unless, from, counted, items, section, list_of, one_of}
 use Rattle.theorems.proofs.Tests.{some_inj, none_some}
-use Rattle.reader.specs.declared.Count.TheVariants.{Is, Bad}
+use Rattle.std.specs.Prelude.{Result, Ok, Err}
+use Rattle.std.specs.Result.{result_unwrap_or}
+use Rattle.errors.specs.declared.Refusal.{Refusal}
 use Rattle.reader.specs.Verdicts.{IsCount}
 use Rattle.views.specs.Numbers.{or_zero, number_at, count_at, CountRead, Named, NamedAll, NamedRows}
 use Rattle.views.proofs.Onward.{bad_not_got, read_is, read_ends, parted, item_ends, Moves, Went, went, one_of_moves}
 
 -- ## the count that the code reads
-pub count_is : (bytes : List ℕ) (at n : ℕ) → IsCount 64 bytes at (Is n) → CountRead bytes at n
+pub count_is : (bytes : List ℕ) (at n : ℕ) → IsCount 64 bytes at (Ok n) → CountRead bytes at n
 unfolding count_at
 count_is bytes at n c = record { few = c.is.1; exact = sym (ap or_zero c.is.0); is = λ m next rest e. same n m _ next _ rest (sym c.is.0 ∙ e) }
   where
     same : (n m p q : ℕ) (bs cs : List ℕ) → got n p bs ≡ got m q cs → n ≡ m
     same n m p q bs cs i = cc
 
-pub count_none : (bytes : List ℕ) (at : ℕ) (e : _) → IsCount 64 bytes at (Bad e) → CountRead bytes at 0
+pub count_none : (bytes : List ℕ) (at : ℕ) (e : _) → IsCount 64 bytes at (Err e) → CountRead bytes at 0
 unfolding count_at
 count_none bytes at e c = record { few = omega arith; exact = sym (ap or_zero c.is); is = λ m next rest i. absurd (bad_not_got _ m next rest (sym c.is ∙ i)) }
+
+pub count_read : (bytes : List ℕ) (at : ℕ) (o : Result ℕ Refusal) (r : ℕ) → IsCount 64 bytes at o → r ≡ result_unwrap_or o 0 → CountRead bytes at r
+count_read bytes at (Ok n) r c e = rw e (count_is bytes at n c)
+count_read bytes at (Err x) r c e = rw e (count_none bytes at x c)
 
 pub counted_moves : (most : ℕ) (bytes : List ℕ) (p n next : ℕ) (rest : List ℕ) → counted most p (from p bytes) ≡ got n next rest → (next ≡ p + 2) × (rest ≡ from (p + 2) bytes)
 unfolding counted

@@ -15,12 +15,12 @@ use Rattle.meaning.specs.Reader.{Read, got, bad, Reader, onward, or_bad, item, u
 use Rattle.theorems.proofs.Tests.{some_inj, none_some}
 use Rattle.theorems.proofs.Readers.{from_from}
 use Rattle.theorems.proofs.Grown.{nth_below}
-use Rattle.reader.specs.declared.Field.{Field}
-use Rattle.reader.specs.declared.Field.TheVariants.{Is, Cut}
+use Rattle.std.specs.Prelude.{Option as Option-of, Some, None, unwrap_or}
 use Rattle.reader.specs.Verdicts.{IsField}
 use Rattle.reader.proofs.Counts.{item_got, item_bad}
-use Rattle.reader.proofs.Fields.{numeral_is, two_bytes}
-use Rattle.views.specs.Numbers.{value_of, or_zero, value_at, number_at, Named}
+use Rattle.reader.specs.Bytes.{text}
+use Rattle.reader.proofs.Fields.{numeral_is}
+use Rattle.views.specs.Numbers.{or_zero, value_at, number_at, Named}
 
 -- A refusal is nothing that was read.
 pub bad_not_got : {A : Type 0} (r : Refusal) (a : A) (next : ℕ) (rest : List ℕ) → bad r ≡ got a next rest → ⊥
@@ -45,14 +45,18 @@ pub past_last : (ix : List ℕ) (b i : ℕ) → length ix - b ≤ i → 0 ≡ ge
 past_last ix b i h = sym (get_or-eq_default ix 0 (omega arith))
 
 -- ## the fields that the code reads
-pub value_is : (k : ℕ) (bytes : List ℕ) (at : ℕ) (f : Field) (r : ℕ) → IsField k bytes at f → r ≡ value_of f → r ≡ value_at k bytes at
+pub value_is : (k : ℕ) (bytes : List ℕ) (at : ℕ) (f : Option-of ℕ) (r : ℕ) → IsField k bytes at f → r ≡ unwrap_or f 0 → r ≡ value_at k bytes at
 unfolding value_at
-value_is k bytes at (Is v) r i e = e ∙ sym (ap or_zero i.is.0)
-value_is k bytes at Cut r i e = e ∙ sym (ap or_zero i.is)
+value_is k bytes at (Some v) r i e = e ∙ sym (ap or_zero i.is.0)
+value_is k bytes at None r i e = e ∙ sym (ap or_zero i.is)
+
+two_parts : (bytes : List ℕ) (at : ℕ) → get_or bytes at 0 + 256 * get_or bytes (at + 1) 0 ≡ little (text bytes at 2)
+unfolding text little
+two_parts bytes at = omega arith
 
 -- Within the file a number is its two bytes.
 pub number_is : (bytes : List ℕ) (at : ℕ) → at + 2 ≤ length bytes → number_at bytes at ≡ get_or bytes at 0 + 256 * get_or bytes (at + 1) 0
-number_is bytes at h = sym (value_is 2 bytes at (Is (get_or bytes at 0 + 256 * get_or bytes (at + 1) 0)) _ (numeral_is 2 bytes at _ h (two_bytes bytes at _ refl)) refl)
+number_is bytes at h = sym (value_is 2 bytes at (Some (get_or bytes at 0 + 256 * get_or bytes (at + 1) 0)) _ (numeral_is 2 bytes at _ h (two_parts bytes at)) refl)
 
 -- A number that was read is that of its bytes, and the next place lies behind them.
 pub numeral_ends : (k : ℕ) (bytes : List ℕ) (at v next : ℕ) (rest : List ℕ) → numeral k at (from at bytes) ≡ got v next rest
@@ -162,19 +166,19 @@ went {bytes = bytes} {m = m} {r = r} g f p q b next rest h e =
 -- ## tags
 module _ {A : Type 0} (bytes : List ℕ) (rs : List (Reader A)) (at : ℕ) (x : A) (next : ℕ) (rest : List ℕ) (e : tagged rs at (from at bytes) ≡ got x next rest) where
   -- The tag chooses the reader r.
-  pub tag_chose : (r : Reader A) (t : ℕ) → IsField 1 bytes at (Is t) → nth rs t ≡ some r → r (at + 1) (from (at + 1) bytes) ≡ got x next rest
+  pub tag_chose : (r : Reader A) (t : ℕ) → IsField 1 bytes at (Some t) → nth rs t ≡ some r → r (at + 1) (from (at + 1) bytes) ≡ got x next rest
   unfolding tagged onward
   tag_chose r t f h = sym (ap (λ (o : Read (Reader A)). onward o (λ s. s)) (item_got format (numeral 1) (nth rs) at _ t r _ _ f.is.0 h)) ∙ e
 
   -- It is a tag, and not cut.
-  pub tag_below : (t : ℕ) → IsField 1 bytes at (Is t) → t < count rs
+  pub tag_below : (t : ℕ) → IsField 1 bytes at (Some t) → t < count rs
   unfolding tagged
   tag_below t f =
       let o = parted (item format (numeral 1) (nth rs) at (from at bytes)) (λ s. s) x next rest e in
       let i = item_ends format 1 (nth rs) bytes at o.value o.place o.left o.first in
-      nth_below rs t o.value (ap (nth rs) (value_is 1 bytes at (Is t) t f refl) ∙ i.0)
+      nth_below rs t o.value (ap (nth rs) (value_is 1 bytes at (Some t) t f refl) ∙ i.0)
 
-  pub tag_there : IsField 1 bytes at Cut → ⊥
+  pub tag_there : IsField 1 bytes at None → ⊥
   unfolding tagged
   tag_there f =
       let o = parted (item format (numeral 1) (nth rs) at (from at bytes)) (λ s. s) x next rest e in

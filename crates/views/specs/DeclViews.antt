@@ -1,5 +1,5 @@
 -- A declaration of the file, as the code shows it.
-use Rattle.std.specs.Prelude.{◌≡◌, List, ℕ}
+use Rattle.std.specs.Prelude.{◌≡◌, List, ℕ, ◌+◌, Option, Some, None}
 use Rattle.std.proofs.Math.Option.{some}
 use Rattle.meaning.specs.Base.{nth}
 use Rattle.meaning.specs.Ast.{Name, named, Ty, Pred, Expr, ClassDecl, InstanceDecl, Decl, class_decl, instance_decl, let_decl, check_decl}
@@ -8,8 +8,13 @@ use Rattle.meaning.specs.File.{decl_entry}
 use Rattle.reader.specs.Placing.{Placed}
 use Rattle.views.specs.declared.Listed.{Listed}
 use Rattle.views.specs.declared.DeclNode.{DeclNode}
-use Rattle.views.specs.declared.DeclNode.TheVariants.{Class, Instance, Let, Check, Nothing}
-use Rattle.views.specs.Numbers.{Named, NamedAll, NamedRows}
+use Rattle.views.specs.declared.DeclNode.TheVariants.{Class, Instance, Let, Check}
+use Rattle.views.specs.Numbers.{CountRead, Named, NamedAll, NamedRows}
+
+-- A list at a place: its items begin behind its count.
+pub record ListRead (bytes : List ℕ) (at : ℕ) (l : Listed) : Type 0 where
+  pub first : l.at ≡ at + 2
+  pub counted : CountRead bytes at l.count
 
 -- A list of names, each with a type or an expression.
 abbrev pub Pairs : {A : Type 0} → List ℕ → List Name → List A → Listed → List (Name × A) → Type 0
@@ -54,19 +59,19 @@ pub record CheckAs (es : List Expr) (d : Decl) (b : ℕ) : Type 0 where
   pub checked_so : Named es b checked
   pub is : d ≡ check_decl checked
 
--- What the answer says of a declaration d. One of the file is never Nothing.
-abbrev pub DeclAs : List ℕ → List Name → List Ty → List Expr → Decl → DeclNode → Type 0
-DeclAs bytes ns ts es d (Class c a supers sigs defaults) = ClassAs bytes ns ts es d c a supers sigs defaults
-DeclAs bytes ns ts es d (Instance context c t methods) = InstanceAs bytes ns ts es d context c t methods
-DeclAs bytes ns ts es d (Let x b) = LetDeclAs ns es d x b
-DeclAs bytes ns ts es d (Check b) = CheckAs es d b
-DeclAs bytes ns ts es d Nothing = ⊥
+-- What the answer says of a declaration d. One of the file is always there.
+abbrev pub DeclAs : List ℕ → List Name → List Ty → List Expr → Decl → Option DeclNode → Type 0
+DeclAs bytes ns ts es d (Some (Class c a supers sigs defaults)) = ClassAs bytes ns ts es d c a supers sigs defaults
+DeclAs bytes ns ts es d (Some (Instance context c t methods)) = InstanceAs bytes ns ts es d context c t methods
+DeclAs bytes ns ts es d (Some (Let x b)) = LetDeclAs ns es d x b
+DeclAs bytes ns ts es d (Some (Check b)) = CheckAs es d b
+DeclAs bytes ns ts es d None = ⊥
 
 -- What stands at a place: right for every declaration that this reader of the definition reads there.
-pub record EntryRead (entry : List Name → List Ty → List Expr → Reader Decl) (bytes : List ℕ) (at : ℕ) (r : DeclNode) : Type 0 where
+pub record EntryRead (entry : List Name → List Ty → List Expr → Reader Decl) (bytes : List ℕ) (at : ℕ) (r : Option DeclNode) : Type 0 where
   pub is : (ns : List Name) (ts : List Ty) (es : List Expr) (d : Decl) (next : ℕ) (rest : List ℕ) → entry ns ts es at (from at bytes) ≡ got d next rest → DeclAs bytes ns ts es d r
 
 -- Declaration i of a file whose declarations stand at their places in the index.
-pub record IsDecl (bytes ix : List ℕ) (i : ℕ) (r : DeclNode) : Type 0 where
+pub record IsDecl (bytes ix : List ℕ) (i : ℕ) (r : Option DeclNode) : Type 0 where
   pub is : (ns : List Name) (ts : List Ty) (es : List Expr) (ds : List Decl) (at end : ℕ) (d : Decl) → Placed bytes ix 10_240 (λ earlier. decl_entry ns ts es) ds at end → nth ds i ≡ some d
       → DeclAs bytes ns ts es d r

@@ -3,13 +3,6 @@ use Rattle.std.specs.Prelude.{◌≡◌, List, ℕ, ◌+◌, ◌*◌, ◌≤◌}
 use Rattle.std.proofs.Math.Option.{some}
 use Rattle.meaning.specs.Base.{count, nth}
 use Rattle.meaning.specs.Reader.{Read, got, bad, from, numeral, counted}
-use Rattle.reader.specs.declared.Field.{Field}
-use Rattle.reader.specs.declared.Field.TheVariants.{Is, Cut}
-
--- A field's number, 0 where it is cut.
-abbrev pub value_of : Field → ℕ
-value_of (Is v) = v
-value_of Cut = 0
 
 -- The number that was read, 0 where none was.
 abbrev pub or_zero : Read ℕ → ℕ

@@ -2,28 +2,27 @@
 // hold, reading ends: past the end of the index a place is 0, and past the end of the file a field is 0.
 #![tactic(auto)]
 
-ghost use Rattle.std.specs.Prelude.{◌≡◌, ℕ, ◌+◌, ◌≤◌, length, get_or};
+ghost use Rattle.std.specs.Prelude.{◌≡◌, ◌+◌, ◌≤◌, length, Some};
 ghost use Rattle.meaning.specs.Base.{eqb};
 ghost use Rattle.meaning.specs.File.{class_entry, instance_entry, decl_entry};
-ghost use Rattle.views.specs.Numbers.{value_of, value_at, number_at, CountRead};
+ghost use Rattle.views.specs.Numbers.{value_at, number_at, CountRead};
 ghost use Rattle.views.specs.TypeViews.{TypeRead, IsType};
 ghost use Rattle.views.specs.ExprViews.{ExprRead, IsExpr};
-ghost use Rattle.views.specs.DeclViews.{EntryRead, IsDecl};
+ghost use Rattle.views.specs.DeclViews.{ListRead, EntryRead, IsDecl};
 
-use reader::{Count, Field};
+pub use nodes::File;
 
 // A type: a variable's name; a constructor's name, the place of its first argument and how many there are; the two
-// sides of an arrow. Nothing where no node stands.
-#[derive(Clone, Copy)]
+// sides of an arrow.
+#[derive(Clone, Copy, Debug, PartialEq, Eq)]
 pub enum TypeNode {
     Var(usize),
     Con(usize, usize, usize),
     Arrow(usize, usize),
-    Nothing,
 }
 
-// An expression, by the numbers of its names and parts. Nothing where no node stands.
-#[derive(Clone, Copy)]
+// An expression, by the numbers of its names and parts.
+#[derive(Clone, Copy, Debug, PartialEq, Eq)]
 pub enum ExprNode {
     Var(usize),
     Int(usize),
@@ -31,249 +30,158 @@ pub enum ExprNode {
     Abs(usize, usize),
     App(usize, usize),
     Let(usize, usize, usize),
-    Nothing,
 }
 
 // A list of the file: the place of its first item, and how many there are.
-#[derive(Clone, Copy)]
+#[derive(Clone, Copy, Debug, PartialEq, Eq)]
 pub struct Listed {
     pub at: usize,
     pub count: usize,
 }
 
 // A declaration. A class: name, variable, superclasses of 2 bytes each, signatures and defaults of 4 bytes each. An
-// instance: context of 4 bytes each, head class, head type, methods of 4 bytes each. Nothing where none stands.
-#[derive(Clone, Copy)]
+// instance: context of 4 bytes each, head class, head type, methods of 4 bytes each.
+#[derive(Clone, Copy, Debug, PartialEq, Eq)]
 pub enum DeclNode {
     Class(usize, usize, Listed, Listed, Listed),
     Instance(Listed, usize, usize, Listed),
     Let(usize, usize),
     Check(usize),
-    Nothing,
-}
-
-// A field's number, 0 where the end of the file cuts it.
-fn value(f: Field) -> usize
-    ensures { result ≡ value_of f }
-{
-    match f {
-        Field::Is(v) => v,
-        Field::Cut => 0,
-    }
-}
-
-// The byte at a place.
-fn byte_at(src: &[u8], at: usize) -> usize
-    ensures { result ≡ value_at 1 src.now at }
-{
-    value(reader::byte(src, at))
 }
 
 // The byte at a place as a truth value.
 fn flag_at(src: &[u8], at: usize) -> bool
     ensures { result ≡ eqb (value_at 1 src.now at) 1 }
 {
-    if byte_at(src, at) == 1 {
-        return true;
-    }
-    false
+    matches!(reader::byte(src, at), Some(1))
 }
 
 // Two bytes as a number, the least one first.
 pub fn number_at(src: &[u8], at: usize) -> usize
     ensures { result ≡ number_at src.now at }
 {
-    value(reader::number(src, at))
-}
-
-// The count at a place, of at most 64 things; 0 where there is none such.
-fn count_at(src: &[u8], at: usize) -> usize
-    ensures { CountRead src.now at result }
-{
-    let c = reader::counted(src, at, 64);
-    match c {
-        Count::Is(n) => n,
-        Count::Bad(_) => 0,
-    }
+    reader::number(src, at).unwrap_or(0)
 }
 
 // Eight bytes as a number, the least one first.
 fn eight_at(src: &[u8], at: usize) -> usize
     ensures { result ≡ value_at 8 src.now at }
 {
-    value(reader::eight(src, at))
+    reader::eight(src, at).unwrap_or(0)
 }
 
-// The place of a section's item i, from the index's words of that section.
-fn place(index: &[u64], base: usize, i: usize) -> usize
-    ensures { result ≡ get_or index.now (base + i) 0 }
+// The count at a place, of at most 64 things; 0 where there is none such.
+fn count_at(src: &[u8], at: usize) -> usize
+    ensures { CountRead src.now at result }
 {
-    let n = index.len();
-    if base >= n {
-        return 0;
+    reader::counted(src, at, 64).unwrap_or(0)
+}
+
+// The list at a place: its count, then its items.
+fn list_at(src: &[u8], at: usize) -> Listed
+    requires { at ≤ length src.now + 512 }
+    ensures { ListRead src.now at result }
+{
+    Listed {
+        at: at + 2,
+        count: count_at(src, at),
     }
-    if i >= n - base {
-        return 0;
-    }
-    index[base + i] as usize
 }
 
 // The type node at a place: tag byte 0 Var; 1 Con; 2 Arrow.
-fn type_read(src: &[u8], at: usize) -> TypeNode
+fn type_read(src: &[u8], at: usize) -> Option<TypeNode>
     ensures { TypeRead src.now at result }
 {
-    let t = reader::byte(src, at);
-    match t {
-        Field::Cut => TypeNode::Nothing,
-        Field::Is(tag) => {
-            if tag == 0 {
-                return TypeNode::Var(number_at(src, at + 1));
-            }
-            if tag == 1 {
-                return TypeNode::Con(number_at(src, at + 1), at + 5, count_at(src, at + 3));
-            }
-            if tag == 2 {
-                return TypeNode::Arrow(number_at(src, at + 1), number_at(src, at + 3));
-            }
-            TypeNode::Nothing
-        }
+    match reader::byte(src, at)? {
+        0 => Some(TypeNode::Var(number_at(src, at + 1))),
+        1 => Some(TypeNode::Con(number_at(src, at + 1), at + 5, count_at(src, at + 3))),
+        2 => Some(TypeNode::Arrow(number_at(src, at + 1), number_at(src, at + 3))),
+        _ => None,
     }
 }
 
-// Type i of the file.
-pub fn type_at(src: &[u8], index: &[u64], i: usize) -> TypeNode
-    ensures { IsType src.now index.now i result }
+// Type i of the file; none where no node stands.
+pub fn type_at(file: File, i: usize) -> Option<TypeNode>
+    ensures { IsType file.entry.src.now file.entry.index.now i result }
 {
-    let at = place(index, 2048, i);
-    type_read(src, at)
+    type_read(file.src, nodes::word(file.index, 2048, i))
 }
 
 // The expression node at a place: tag byte 0 Var; 1 Int; 2 Bool; 3 Abs; 4 App; 5 Let.
-fn expr_read(src: &[u8], at: usize) -> ExprNode
+fn expr_read(src: &[u8], at: usize) -> Option<ExprNode>
     ensures { ExprRead src.now at result }
 {
-    let t = reader::byte(src, at);
-    match t {
-        Field::Cut => ExprNode::Nothing,
-        Field::Is(tag) => {
-            if tag == 0 {
-                return ExprNode::Var(number_at(src, at + 1));
-            }
-            if tag == 1 {
-                return ExprNode::Int(eight_at(src, at + 1));
-            }
-            if tag == 2 {
-                return ExprNode::Bool(flag_at(src, at + 1));
-            }
-            if tag == 3 {
-                return ExprNode::Abs(number_at(src, at + 1), number_at(src, at + 3));
-            }
-            if tag == 4 {
-                return ExprNode::App(number_at(src, at + 1), number_at(src, at + 3));
-            }
-            if tag == 5 {
-                return ExprNode::Let(
-                    number_at(src, at + 1),
-                    number_at(src, at + 3),
-                    number_at(src, at + 5),
-                );
-            }
-            ExprNode::Nothing
-        }
+    match reader::byte(src, at)? {
+        0 => Some(ExprNode::Var(number_at(src, at + 1))),
+        1 => Some(ExprNode::Int(eight_at(src, at + 1))),
+        2 => Some(ExprNode::Bool(flag_at(src, at + 1))),
+        3 => Some(ExprNode::Abs(number_at(src, at + 1), number_at(src, at + 3))),
+        4 => Some(ExprNode::App(number_at(src, at + 1), number_at(src, at + 3))),
+        5 => Some(ExprNode::Let(
+            number_at(src, at + 1),
+            number_at(src, at + 3),
+            number_at(src, at + 5),
+        )),
+        _ => None,
     }
 }
 
-// Expression i of the file.
-pub fn expr_at(src: &[u8], index: &[u64], i: usize) -> ExprNode
-    ensures { IsExpr src.now index.now i result }
+// Expression i of the file; none where no node stands.
+pub fn expr_at(file: File, i: usize) -> Option<ExprNode>
+    ensures { IsExpr file.entry.src.now file.entry.index.now i result }
 {
-    let at = place(index, 6144, i);
-    expr_read(src, at)
+    expr_read(file.src, nodes::word(file.index, 6144, i))
 }
 
 // The class after its tag.
 fn class_read(src: &[u8], at: usize) -> DeclNode
     requires { at ≤ length src.now }
-    ensures { EntryRead class_entry src.now at result }
+    ensures { EntryRead class_entry src.now at (Some result) }
 {
-    let c = number_at(src, at);
-    let a = number_at(src, at + 2);
-    let k = count_at(src, at + 4);
-    let p = at + 6 + 2 * k;
-    let m = count_at(src, p);
-    let q = p + 2 + 4 * m;
-    let n = count_at(src, q);
+    let supers = list_at(src, at + 4);
+    let signatures = list_at(src, supers.at + 2 * supers.count);
+    let defaults = list_at(src, signatures.at + 4 * signatures.count);
     DeclNode::Class(
-        c,
-        a,
-        Listed {
-            at: at + 6,
-            count: k,
-        },
-        Listed {
-            at: p + 2,
-            count: m,
-        },
-        Listed {
-            at: q + 2,
-            count: n,
-        },
+        number_at(src, at),
+        number_at(src, at + 2),
+        supers,
+        signatures,
+        defaults,
     )
 }
 
 // The instance after its tag.
 fn instance_read(src: &[u8], at: usize) -> DeclNode
     requires { at ≤ length src.now }
-    ensures { EntryRead instance_entry src.now at result }
+    ensures { EntryRead instance_entry src.now at (Some result) }
 {
-    let k = count_at(src, at);
-    let p = at + 2 + 4 * k;
-    let c = number_at(src, p);
-    let t = number_at(src, p + 2);
-    let m = count_at(src, p + 4);
+    let context = list_at(src, at);
+    let head = context.at + 4 * context.count;
+    let methods = list_at(src, head + 4);
     DeclNode::Instance(
-        Listed {
-            at: at + 2,
-            count: k,
-        },
-        c,
-        t,
-        Listed {
-            at: p + 6,
-            count: m,
-        },
+        context,
+        number_at(src, head),
+        number_at(src, head + 2),
+        methods,
     )
 }
 
 // The declaration at a place: tag byte 0 class; 1 instance; 2 let; 3 check.
-fn decl_read(src: &[u8], at: usize) -> DeclNode
+fn decl_read(src: &[u8], at: usize) -> Option<DeclNode>
     ensures { EntryRead decl_entry src.now at result }
 {
-    let t = reader::byte(src, at);
-    match t {
-        Field::Cut => DeclNode::Nothing,
-        Field::Is(tag) => {
-            if tag == 0 {
-                return class_read(src, at + 1);
-            }
-            if tag == 1 {
-                return instance_read(src, at + 1);
-            }
-            if tag == 2 {
-                return DeclNode::Let(number_at(src, at + 1), number_at(src, at + 3));
-            }
-            if tag == 3 {
-                return DeclNode::Check(number_at(src, at + 1));
-            }
-            DeclNode::Nothing
-        }
+    match reader::byte(src, at)? {
+        0 => Some(class_read(src, at + 1)),
+        1 => Some(instance_read(src, at + 1)),
+        2 => Some(DeclNode::Let(number_at(src, at + 1), number_at(src, at + 3))),
+        3 => Some(DeclNode::Check(number_at(src, at + 1))),
+        _ => None,
     }
 }
 
-// Declaration i of the file.
-pub fn decl_at(src: &[u8], index: &[u64], i: usize) -> DeclNode
-    ensures { IsDecl src.now index.now i result }
+// Declaration i of the file; none where none stands.
+pub fn decl_at(file: File, i: usize) -> Option<DeclNode>
+    ensures { IsDecl file.entry.src.now file.entry.index.now i result }
 {
-    let at = place(index, 10240, i);
-    decl_read(src, at)
+    decl_read(file.src, nodes::word(file.index, 10240, i))
 }

@@ -1,19 +1,9 @@
 -- The measure of each is its first word: what a word refers to lies below it.
-use mathlib.Core.Path.{ap, sym, ◌∙◌}
+use mathlib.Core.Path.{sym, ◌∙◌}
 use native.Mathlib.Omega.{arith}
-use Rattle.ast.specs.Table.{tree, list}
 use Rattle.ast.proofs.Laws.{con_child, arrow_left, arrow_right, cons_head, cons_tail}
-use Rattle.ast.proofs.Walks.{types_same, same_vars, var_con, var_arrow, con_var, con_arrow, arrow_var, arrow_con, names_differ, same_cons, left_differs, left_same, both_nil, nil_cons, cons_nil, head_differs, head_same}
+use Rattle.ast.proofs.Walks.{same_vars, var_con, var_arrow, con_var, con_arrow, arrow_var, arrow_con, names_differ, same_cons, left_differs, left_same, both_nil, nil_cons, cons_nil, head_differs, head_same}
 use Rattle.ast.proofs.+same_same_list.Goals as goal
-
-pub same-returns-then-s-t : goal.same-returns-then-s-t
-same-returns-then-s-t t c = types_same (ap (tree c.args.names.now _) c.if-s-t.true)
-
-pub same-shape_at-p-requires : goal.same-shape_at-p-requires
-same-shape_at-p-requires t c = let s = c.requires.node.table.room in let a = c.requires.node.below in let b = c.requires.node_2.below in omega arith
-
-pub same-shape_at-q-requires : goal.same-shape_at-q-requires
-same-shape_at-q-requires t c = let s = c.requires.node.table.room in let a = c.requires.node.below in let b = c.requires.node_2.below in omega arith
 
 pub same-returns-then-c-d : goal.same-returns-then-c-d
 same-returns-then-c-d t c = names_differ c.requires.names c.requires.node c.requires.node_2 c.shape_at-p.ensures c.shape_at-q.ensures c.in-Con.is c.in-Con-q-2.is c.if-c-d.true
@@ -57,15 +47,6 @@ same-returns-in-Con-q-3 t c = arrow_con c.requires.names c.requires.node c.requi
 pub same-returns-else-same : goal.same-returns-else-same
 same-returns-else-same t c = left_differs c.requires.names c.requires.node c.requires.node_2 c.shape_at-p.ensures c.shape_at-q.ensures c.in-Arrow.is c.in-Arrow-q-3.is (sym c.if-same.false ∙ c.same.ensures)
 
-pub same_list-returns-then-k-l : goal.same_list-returns-then-k-l
-same_list-returns-then-k-l t c = ap (list c.args.names.now _) c.if-k-l.true
-
-pub same_list-cell_at-p-requires : goal.same_list-cell_at-p-requires
-same_list-cell_at-p-requires t c = let s = c.requires.node.table.room in let a = c.requires.node.below in let b = c.requires.node_2.below in omega arith
-
-pub same_list-cell_at-q-requires : goal.same_list-cell_at-q-requires
-same_list-cell_at-q-requires t c = let s = c.requires.node.table.room in let a = c.requires.node.below in let b = c.requires.node_2.below in omega arith
-
 pub same_list-same-requires : goal.same_list-same-requires
 same_list-same-requires t c = let j = cons_head c.requires.node c.cell_at-p.ensures c.in-Cons.is in let k = cons_head c.requires.node_2 c.cell_at-q.ensures c.in-Cons-q-2.is in (omega arith, (c.requires.names, (j.1, k.1)))
 
@@ -73,16 +54,16 @@ pub same_list-same_list-requires : goal.same_list-same_list-requires
 same_list-same_list-requires t c = let j = cons_tail c.requires.node c.cell_at-p.ensures c.in-Cons.is in let k = cons_tail c.requires.node_2 c.cell_at-q.ensures c.in-Cons-q-2.is in (omega arith, (c.requires.names, (j.1, k.1)))
 
 pub same_list-returns-then-same : goal.same_list-returns-then-same
-same_list-returns-then-same t c = head_same c.args.names.now c.requires.node c.requires.node_2 c.cell_at-p.ensures c.cell_at-q.ensures c.in-Cons.is c.in-Cons-q-2.is c.same_list.result (sym c.if-same.true ∙ c.same.ensures) c.same_list.ensures
+same_list-returns-then-same t c = head_same c.args.base.names.now c.requires.node c.requires.node_2 c.cell_at-p.ensures c.cell_at-q.ensures c.in-Cons.is c.in-Cons-q-2.is c.same_list.result (sym c.if-same.true ∙ c.same.ensures) c.same_list.ensures
 
 pub same_list-returns-in-Nil-q : goal.same_list-returns-in-Nil-q
-same_list-returns-in-Nil-q t c = both_nil c.args.names.now c.requires.node c.requires.node_2 c.cell_at-p.ensures c.cell_at-q.ensures c.in-Nil.is c.in-Nil-q.is
+same_list-returns-in-Nil-q t c = both_nil c.args.base.names.now c.requires.node c.requires.node_2 c.cell_at-p.ensures c.cell_at-q.ensures c.in-Nil.is c.in-Nil-q.is
 
 pub same_list-returns-in-Cons-q : goal.same_list-returns-in-Cons-q
-same_list-returns-in-Cons-q t c = nil_cons c.args.names.now c.requires.node c.requires.node_2 c.cell_at-p.ensures c.cell_at-q.ensures c.in-Nil.is c.in-Cons-q.is
+same_list-returns-in-Cons-q t c = nil_cons c.args.base.names.now c.requires.node c.requires.node_2 c.cell_at-p.ensures c.cell_at-q.ensures c.in-Nil.is c.in-Cons-q.is
 
 pub same_list-returns-in-Nil-q-2 : goal.same_list-returns-in-Nil-q-2
-same_list-returns-in-Nil-q-2 t c = cons_nil c.args.names.now c.requires.node c.requires.node_2 c.cell_at-p.ensures c.cell_at-q.ensures c.in-Cons.is c.in-Nil-q-2.is
+same_list-returns-in-Nil-q-2 t c = cons_nil c.args.base.names.now c.requires.node c.requires.node_2 c.cell_at-p.ensures c.cell_at-q.ensures c.in-Cons.is c.in-Nil-q-2.is
 
 pub same_list-returns-else-same : goal.same_list-returns-else-same
-same_list-returns-else-same t c = head_differs c.args.names.now c.requires.node c.requires.node_2 c.cell_at-p.ensures c.cell_at-q.ensures c.in-Cons.is c.in-Cons-q-2.is (sym c.if-same.false ∙ c.same.ensures)
+same_list-returns-else-same t c = head_differs c.args.base.names.now c.requires.node c.requires.node_2 c.cell_at-p.ensures c.cell_at-q.ensures c.in-Cons.is c.in-Cons-q-2.is (sym c.if-same.false ∙ c.same.ensures)

@@ -1,4 +1,4 @@
--- The loop's invariant: what the rows from row i on leave is what all leave. The measure is how many are left.
+-- The loop's invariant: what the rows from row i on leave is what all leave.
 use native.Mathlib.Omega.{arith}
 use Rattle.canonical.proofs.Leasts.{leasting, leasted, leasts_on}
 use Rattle.canonical.proofs.least_above.Goals as goal
@@ -11,12 +11,6 @@ loop-i-init c = leasting c.least_in-best.ensures
 
 pub least_row-best-requires : goal.least_row-best-requires
 least_row-best-requires c = record { ready_var = c.requires.type.env; binders = c.requires.binders; i_lt_n = c.loop-i-test.true }
-
-pub overflow_add-i : goal.overflow_add-i
-overflow_add-i c = let l = c.loop-i-test.true in omega arith
-
-pub loop-i-smaller : goal.loop-i-smaller
-loop-i-smaller c = let l = c.loop-i-test.true in omega arith
 
 pub loop-i-preserved : goal.loop-i-preserved
 loop-i-preserved c = leasts_on c.loop-i.invariant c.loop-i-test.true c.least_row-best.ensures

@@ -1,5 +1,6 @@
--- The loop's invariant: what is chosen from `from` on comes behind the first k words. The measure is how many letters are left.
-use mathlib.Core.Path.{refl, ◌∙◌}
+-- The loop's invariant: what is chosen from `from` on comes behind the first k words.
+use mathlib.Core.List.{◌++◌}
+use mathlib.Core.Path.{◌≡◌, refl, ◌∙◌}
 use lib.ListN.{length-set}
 use native.Mathlib.Omega.{arith}
 use Rattle.canonical.proofs.Lettering.{lettering, letters_on, letters_full, letters_over}
@@ -26,12 +27,6 @@ bounds-out-k c = let l = c.loop-k-test.true in let o = c.loop-k.invariant.0.long
 pub overflow_add-from : goal.overflow_add-from
 overflow_add-from c = let l = c.if-x-ge-NULLARY.false in omega arith
 
-pub overflow_add-k : goal.overflow_add-k
-overflow_add-k c = let l = c.loop-k-test.true in omega arith
-
-pub loop-k-smaller : goal.loop-k-smaller
-loop-k-smaller c = let l = c.loop-k-test.true in omega arith
-
 pub loop-k-preserved : goal.loop-k-preserved
 loop-k-preserved c = (letters_on c.loop-k.invariant.0 c.least_above-x.ensures c.loop-k-test.true (let l = c.if-x-ge-NULLARY.false in omega arith) refl, length-set c.loop-k.out _ _ ∙ c.loop-k.invariant.1)
 
@@ -39,4 +34,4 @@ pub shape_of-out : goal.shape_of-out
 shape_of-out c = c.loop-k.invariant.1
 
 pub returns : goal.returns
-returns c = letters_full _ c.requires.ready_rows.type.env.names c.loop-k.invariant.0 (let l = c.loop-k-test.false in omega arith)
+returns c = let l = c.loop-k-test.false in let m = c.loop-k.auto.k-end in let z : c.loop-k.k ≡ 26 = omega arith in rw z at (letters_full (c.args.base.words.now ++ c.args.work.now) c.requires.ready_rows.type.env.names c.loop-k.invariant.0 (omega arith))

@@ -1,5 +1,4 @@
--- The loop's invariant: what is chosen from `from` on comes behind the first k words. The measure is how many letters are left.
-use Prim.Native.Nat.{◌-◌}
+-- The loop's invariant: what is chosen from `from` on comes behind the first k words.
 use mathlib.Core.List.{◌++◌}
 use mathlib.Core.Path.{◌≡◌}
 use lib.ListN.{length}
@@ -9,7 +8,4 @@ use Rattle.canonical.proofs.Lettering.{Lettering}
 use Rattle.canonical.proofs.letters.Given as goal
 
 abbrev pub invariant-loop-k : goal.invariant-loop-k
-invariant-loop-k l = Lettering l.names (rows_qual l.names (l.base ++ l.work) l.binders l.n l.t) (env_of l.names (l.base ++ l.work) l.env l.order) l.out l.from l.k × (length l.out ≡ length l.initial.out)
-
-abbrev pub decreases-loop-k : goal.decreases-loop-k
-decreases-loop-k l = 26 - l.k
+invariant-loop-k l = Lettering l.base.names.now (rows_qual l.base.names.now (l.base.words.now ++ l.work) l.binders l.n l.t) (env_of l.base.names.now (l.base.words.now ++ l.work) l.env.rows.now l.env.order.now) l.out l.from l.k × (length l.out ≡ length l.initial.out)

@@ -2,8 +2,8 @@
 use Rattle.classes.proofs.AddLaws.{adds_all, adds_missing}
 use Rattle.classes.proofs.add_class.Goals as goal
 
-pub returns-in-All : goal.returns-in-All
-returns-in-All c = adds_all c.supers_known-k.ensures c.in-All.is c.put_class.ensures
+pub returns-in-Ok : goal.returns-in-Ok
+returns-in-Ok c = adds_all c.supers_known-k.ensures c.in-Ok.is c.put_class.ensures
 
-pub returns-in-Missing : goal.returns-in-Missing
-returns-in-Missing c = adds_missing c.supers_known-k.ensures c.in-Missing.is
+pub returns-in-Err : goal.returns-in-Err
+returns-in-Err c = adds_missing c.supers_known-k.ensures c.in-Err.is

@@ -1,4 +1,4 @@
--- The loop's invariant: the signatures that are left give what all of them give. The measure is how many are left.
+-- The loop's invariant: the signatures that are left give what all of them give.
 use native.Mathlib.Omega.{arith}
 use Rattle.classes.proofs.Recording.{going_none, going_on}
 use Rattle.classes.proofs.Recorded.{adds_methods}

@@ -1,7 +1,9 @@
 -- There is no room, or the superclasses are copied and two words are written.
+use mathlib.Core.Path.{◌≡◌, sym}
+use Prim.Native.Nat.{◌+◌, ◌-◌}
 use native.Mathlib.Omega.{arith}
-use lib.ListN.{length-set}
-use Rattle.classes.proofs.Copying.{put_full, put_done}
+use lib.ListN.{length, length-set}
+use Rattle.classes.proofs.Copying.{copied, put_full, put_done}
 use Rattle.classes.proofs.put_class.Goals as goal
 
 pub returns-then-c-n : goal.returns-then-c-n
@@ -14,7 +16,7 @@ pub returns-then-k-n : goal.returns-then-k-n
 returns-then-k-n c = put_full (omega arith)
 
 pub bounds-classes-c-2 : goal.bounds-classes-c-2
-bounds-classes-c-2 c = let l = c.copy_in.ensures.long in simp length-set (omega arith)
+bounds-classes-c-2 c = let l = c.copy_from_slice.ensures.len in simp length-set (omega arith)
 
 pub returns : goal.returns
-returns c = put_done c.args.c c.copy_in.ensures (omega arith) (omega arith)
+returns c = let z : c.args.used + length c.args.supers.now - c.args.used ≡ length c.args.supers.now = omega arith in rw c.copy_from_slice.ensures.after (put_done c.args.c (copied c.args.classes.now c.args.supers.now c.args.used _ (sym z) (omega arith)) (omega arith) (omega arith))

@@ -1,4 +1,4 @@
--- The loop's invariant: the superclasses passed so far are declared. The measure is how many are left.
+-- The loop's invariant: the superclasses passed so far are declared.
 use Rattle.classes.proofs.Knowing.{sure_none, sure_next, knows_all, knows_missing}
 use Rattle.classes.proofs.supers_known.Goals as goal
 

@@ -1,9 +1,10 @@
--- `compose::merge_pairs` meets its contract: where the regions agree they become one. Assumes nothing.
+-- `compose::merge_pairs` meets its contract: where the regions agree they become one.
+use Rattle.errors.proofs.Thrown.{thrown}
 use Rattle.compose.proofs.Agreeing.{pairs_merged, pairs_clash}
 use Rattle.compose.proofs.merge_pairs.Goals as goal
 
-pub returns-in-All : goal.returns-in-All
-returns-in-All c = pairs_merged c.requires.both c.agree-a.ensures c.in-All.is c.merge_in-c.ensures
+pub returns : goal.returns
+returns c = pairs_merged c.requires.both c.agree.ensures c.in_ok-agree.was c.merge_in.ensures
 
-pub returns-in-Clash : goal.returns-in-Clash
-returns-in-Clash c = pairs_clash c.requires.both c.agree-a.ensures c.in-Clash.is
+pub returns-in_err-agree : goal.returns-in_err-agree
+returns-in_err-agree c = rw (thrown _ c.from_residual.ensures.1) (pairs_clash c.requires.both c.agree.ensures c.in_err-agree.was)

@@ -1,17 +1,15 @@
 -- The unification, then the three regions.
-use native.Mathlib.Omega.{arith}
+use Rattle.errors.proofs.Thrown.{thrown}
 use Rattle.pairs.proofs.Frames.{long}
-use Rattle.ends.proofs.Closing.{app_meet, app_refused, app_more, app_close, app_done}
+use Rattle.apply.proofs.Seen.{ok_is, err_is}
+use Rattle.ends.proofs.Closing.{app_refused, app_close, app_done}
 use Rattle.ends.proofs.app_end.Goals as goal
 
-pub meet-r-requires : goal.meet-r-requires
-meet-r-requires c = record { base_len_bound = c.requires.base_len_bound; ready_meet = app_meet c.requires.ready_app }
+pub returns-in_err-k3 : goal.returns-in_err-k3
+returns-in_err-k3 c = rw (thrown _ c.from_residual.ensures.1) (app_refused c.requires.ready_app c.meet.ensures (err_is c.in_err-k3.was))
 
-pub close-requires : goal.close-requires
-close-requires c = let b = c.requires.base_len_bound in let m = app_more c.requires.ready_app c.meet-r.ensures c.in-Done.is in record { base_len_bound = omega arith; a_lt_first_nullary = c.requires.ready_app.variable; ready_gather = app_close c.requires.ready_app c.meet-r.ensures c.in-Done.is (long c.args.base.now c.meet-r.new.work c.args.work.now c.meet-r.auto.work) }
+pub close-requires-clause-ready_gather : goal.close-requires-clause-ready_gather
+close-requires-clause-ready_gather c = app_close c.requires.ready_app c.meet.ensures (ok_is c.in_ok-k3.was) (long c.args.base.words.now c.meet.new.work c.args.work.now c.meet.auto.work)
 
-pub returns-in-Done : goal.returns-in-Done
-returns-in-Done c = app_done c.requires.ready_app c.meet-r.ensures c.in-Done.is c.close.ensures
-
-pub returns-in-Refused : goal.returns-in-Refused
-returns-in-Refused c = app_refused c.requires.ready_app c.meet-r.ensures c.in-Refused.is
+pub returns : goal.returns
+returns c = app_done c.requires.ready_app c.meet.ensures (ok_is c.in_ok-k3.was) c.close.ensures

@@ -1,20 +1,23 @@
 -- What is settled, then the test and the names.
 use native.Mathlib.Omega.{arith}
+use Rattle.errors.proofs.Thrown.{thrown}
 use Rattle.pairs.proofs.Frames.{long}
+use Rattle.settle.proofs.Seen.{settled_is, unsettled_is}
+use Rattle.generalize.proofs.Seen.{named_is, unnamed_is}
 use Rattle.generalize.proofs.FromWays.{settle_refused, settle_more, from_asked, from_term, conclude_stops, conclude_done}
 use Rattle.generalize.proofs.generalize.Goals as goal
 
-pub settle-r-requires : goal.settle-r-requires
-settle-r-requires c = record { base_len_bound = c.requires.base_len_bound; ready_settle = c.requires.ready_generalize.settle }
+pub settle-requires : goal.settle-requires
+settle-requires c = record { base_len_bound = c.requires.base_len_bound; ready_settle = c.requires.ready_generalize.settle }
 
-pub conclude_from-q-requires : goal.conclude_from-q-requires
-conclude_from-q-requires c = let x = c.requires.base_len_bound in let y = settle_more c.requires.ready_generalize c.settle-r.ensures c.in-Done.is in let z = y.1.1 in record { nd_le_n = y.0; n_in_bounds = y.1.0; base_len_bound = omega arith; ready_from = from_asked c.requires.ready_generalize c.settle-r.ensures c.in-Done.is (long c.args.base.now c.settle-r.new.work c.args.work.now c.settle-r.auto.work); node = from_term c.requires.ready_generalize c.settle-r.ensures c.in-Done.is }
+pub conclude_from-requires : goal.conclude_from-requires
+conclude_from-requires c = let x = c.requires.base_len_bound in let y = settle_more c.requires.ready_generalize c.settle.ensures (settled_is c.in_ok-r.was) in let z = y.1.1 in record { nd_le_n = y.0; n_in_bounds = y.1.0; base_len_bound = omega arith; ready_from = from_asked c.requires.ready_generalize c.settle.ensures (settled_is c.in_ok-r.was) (long c.args.base.words.now c.settle.new.work c.args.work.now c.settle.auto.work); node = from_term c.requires.ready_generalize c.settle.ensures (settled_is c.in_ok-r.was) }
 
-pub returns-in-Done-q : goal.returns-in-Done-q
-returns-in-Done-q c = conclude_done c.requires.ready_generalize c.settle-r.ensures c.in-Done.is c.conclude_from-q.ensures c.conclude_from-q.auto.binders c.in-Done-q.is
+pub returns : goal.returns
+returns c = conclude_done c.requires.ready_generalize c.settle.ensures (settled_is c.in_ok-r.was) c.conclude_from.ensures c.conclude_from.auto.binders (named_is c.in_ok-q.was)
 
-pub returns-in-Refused-q : goal.returns-in-Refused-q
-returns-in-Refused-q c = conclude_stops c.requires.ready_generalize c.settle-r.ensures c.in-Done.is c.conclude_from-q.ensures c.conclude_from-q.auto.binders c.in-Refused-q.is
+pub returns-in_err-q : goal.returns-in_err-q
+returns-in_err-q c = rw (thrown _ c.from_residual-in_err-q.ensures.1) (conclude_stops c.requires.ready_generalize c.settle.ensures (settled_is c.in_ok-r.was) c.conclude_from.ensures c.conclude_from.auto.binders (unnamed_is c.in_err-q.was))
 
-pub returns-in-Refused : goal.returns-in-Refused
-returns-in-Refused c = settle_refused c.requires.ready_generalize c.settle-r.ensures c.in-Refused.is
+pub returns-in_err-r : goal.returns-in_err-r
+returns-in_err-r c = rw (thrown _ c.from_residual.ensures.1) (settle_refused c.requires.ready_generalize c.settle.ensures (unsettled_is c.in_err-r.was))

@@ -4,9 +4,10 @@ use native.Mathlib.Omega.{arith}
 use Rattle.meaning.specs.Ast.{cbool}
 use Rattle.inferred.proofs.Literals.{false_core, true_core, bool_closed}
 use Rattle.inferred.proofs.bool_literal.Goals as goal
-
-pub returns-then-b : goal.returns-then-b
-returns-then-b c = bool_closed c.requires.ready_literal c.args.b _ (omega arith) (true_core _ _ ∙ ap cbool (sym c.if-b.true))
+use Rattle.inferred.proofs.bool_literal.Goals.{then-b, else-b}
 
 pub returns : goal.returns
-returns c = bool_closed c.requires.ready_literal c.args.b _ (omega arith) (false_core _ _ ∙ ap cbool (sym c.if-b.false))
+returns c = elim c.if-b.branch [
+  | then-b w ↦ rw w.word-is (bool_closed c.requires.ready_literal c.args.b _ (omega arith) (true_core _ _ ∙ ap cbool (sym w.if-b.true)))
+  | else-b w ↦ rw w.word-is (bool_closed c.requires.ready_literal c.args.b _ (omega arith) (false_core _ _ ∙ ap cbool (sym w.if-b.false)))
+]

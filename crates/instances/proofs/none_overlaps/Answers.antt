@@ -1,33 +1,26 @@
--- The loop's invariant: the instances that are left give what all of them give. The measure is how many are left.
+-- The loop's invariant: the instances that are left give what all of them give.
+use mathlib.Core.Path.{◌∙◌}
 use native.Mathlib.Omega.{arith}
+use Rattle.errors.proofs.Thrown.{thrown}
 use Rattle.pairs.proofs.Frames.{long}
-use Rattle.compose.proofs.Pieces.{same_short}
+use Rattle.instances.proofs.Seen.{yes_is, no_is, untold_is}
 use Rattle.instances.proofs.Loops.{going, going_ready, apart_not, apart_refused, apart_on, apart_all}
 use Rattle.instances.proofs.none_overlaps.Goals as goal
 
 pub loop-j-init : goal.loop-j-init
-loop-j-init c = going _ _ _ _ _ _ _
+loop-j-init c = (omega arith, going _ _ _ _ _ _ _)
 
-pub overlaps_instance-r-requires : goal.overlaps_instance-r-requires
-overlaps_instance-r-requires c = record { base_len_bound = c.requires.base_len_bound; ready_pick = going_ready c.requires.ready_pick c.loop-j.invariant; i_in_bounds = c.loop-j-test.true }
+pub overlaps_instance-requires : goal.overlaps_instance-requires
+overlaps_instance-requires c = rw c.loop-j.invariant.0 (record { base_len_bound = c.requires.base_len_bound; ready_pick = going_ready c.requires.ready_pick c.loop-j.invariant.1; i_in_bounds = c.loop-j-test.true })
 
-pub shape_of-work-in-Yes : goal.shape_of-work-in-Yes
-shape_of-work-in-Yes c = let y = same_short c.args.base.now c.args.work.now c.loop-j.work c.loop-j.invariant.long in let x = c.overlaps_instance-r.auto.work in omega arith
+pub returns-in_err-r-clause-gives : goal.returns-in_err-r-clause-gives
+returns-in_err-r-clause-gives c = let T = rw c.loop-j.invariant.0 at c.overlaps_instance.ensures.gives in rw (thrown _ c.from_residual.ensures.1) (apart_refused c.requires.ready_pick c.args.c c.loop-j.invariant.1 c.loop-j-test.true T (untold_is c.in_err-r.was))
 
-pub returns-in-Yes : goal.returns-in-Yes
-returns-in-Yes c = apart_not c.requires.ready_pick c.args.c c.loop-j.invariant c.loop-j-test.true c.overlaps_instance-r.ensures c.in-Yes.is (long c.args.base.now c.overlaps_instance-r.new.work c.loop-j.work c.overlaps_instance-r.auto.work)
-
-pub shape_of-work-in-Refused : goal.shape_of-work-in-Refused
-shape_of-work-in-Refused c = let y = same_short c.args.base.now c.args.work.now c.loop-j.work c.loop-j.invariant.long in let x = c.overlaps_instance-r.auto.work in omega arith
-
-pub returns-in-Refused : goal.returns-in-Refused
-returns-in-Refused c = apart_refused c.requires.ready_pick c.args.c c.loop-j.invariant c.loop-j-test.true c.overlaps_instance-r.ensures c.in-Refused.is
+pub returns-then-r-clause-gives : goal.returns-then-r-clause-gives
+returns-then-r-clause-gives c = let T = rw c.loop-j.invariant.0 at c.overlaps_instance.ensures.gives in let S = rw c.in_ok-r.was at c.overlaps_instance.ensures.stays in rw (S, c.loop-j.invariant.0) (apart_not c.requires.ready_pick c.args.c c.loop-j.invariant.1 c.loop-j-test.true T (yes_is _ c.in_ok-r.was c.if-r.true) (long c.args.base.words.now c.overlaps_instance.new.work c.loop-j.work c.overlaps_instance.auto.work))
 
 pub loop-j-preserved : goal.loop-j-preserved
-loop-j-preserved c = apart_on c.requires.ready_pick c.args.c c.loop-j.invariant c.loop-j-test.true c.overlaps_instance-r.ensures c.in-No.is (long c.args.base.now c.overlaps_instance-r.new.work c.loop-j.work c.overlaps_instance-r.auto.work)
+loop-j-preserved c = let T = rw c.loop-j.invariant.0 at c.overlaps_instance.ensures.gives in let S = rw c.in_ok-r.was at c.overlaps_instance.ensures.stays in (S ∙ c.loop-j.invariant.0, apart_on c.requires.ready_pick c.args.c c.loop-j.invariant.1 c.loop-j-test.true T (no_is _ c.in_ok-r.was c.if-r.false) (long c.args.base.words.now c.overlaps_instance.new.work c.loop-j.work c.overlaps_instance.auto.work))
 
-pub shape_of-work : goal.shape_of-work
-shape_of-work c = same_short c.args.base.now c.args.work.now c.loop-j.work c.loop-j.invariant.long
-
-pub returns : goal.returns
-returns c = apart_all c.requires.ready_pick c.args.c c.loop-j.invariant c.loop-j-test.false
+pub returns-clause-gives : goal.returns-clause-gives
+returns-clause-gives c = apart_all c.requires.ready_pick c.args.c c.loop-j.invariant.1 c.loop-j-test.false

@@ -1,5 +1,5 @@
--- The loop's invariant: the instances that are left give what all of them give. The measure is how many are left.
-use Prim.Native.Nat.{◌-◌}
+-- The loop's invariant: the instances that are left give what all of them give.
+use mathlib.Core.Path.{◌≡◌}
 use mathlib.Core.List.{◌++◌}
 use Rattle.meaning.specs.Ast.{pred}
 use Rattle.names.specs.Names.{name_of}
@@ -8,7 +8,4 @@ use Rattle.instances.proofs.Loops.{parts_from, Going}
 use Rattle.instances.proofs.none_overlaps.Given as goal
 
 abbrev pub invariant-loop-j : goal.invariant-loop-j
-invariant-loop-j l = Going (parts_from (pred (name_of l.names l.c) (tree l.names (l.base ++ l.initial.work) l.t))) l.names (l.base ++ l.initial.work) l.insts l.top l.initial.l l.sp (l.base ++ l.work) l.l l.j
-
-abbrev pub decreases-loop-j : goal.decreases-loop-j
-decreases-loop-j l = l.n - l.j
+invariant-loop-j l = (l.room.top ≡ l.initial.room.top) × Going (parts_from (pred (name_of l.base.names.now l.c) (tree l.base.names.now (l.base.words.now ++ l.initial.work) l.t))) l.base.names.now (l.base.words.now ++ l.initial.work) l.insts l.initial.room.top l.initial.room.left l.sp (l.base.words.now ++ l.work) l.room.left l.j

@@ -1,15 +1,11 @@
 -- The match of b with a decides.
-use Rattle.instances.proofs.Attempts.{turned_ready, back_yes, back_no, back_refused}
+use Rattle.errors.proofs.Thrown.{thrown}
+use Rattle.instances.proofs.Seen.{tried_is, limit_is}
+use Rattle.instances.proofs.Attempts.{back_told, back_refused}
 use Rattle.instances.proofs.overlaps_back.Goals as goal
 
-pub try_match-r-requires : goal.try_match-r-requires
-try_match-r-requires c = record { base_len_bound = c.requires.base_len_bound; ready_u = turned_ready c.requires.ready_u }
+pub returns-in_err-r-clause-gives : goal.returns-in_err-r-clause-gives
+returns-in_err-r-clause-gives c = rw (thrown _ c.from_residual.ensures.1) (back_refused c.requires.ready_u c.try_match.ensures.gives (limit_is c.in_err-r.was))
 
-pub returns-in-Got : goal.returns-in-Got
-returns-in-Got c = back_yes c.requires.ready_u c.try_match-r.ensures c.in-Got.is
-
-pub returns-in-Failed : goal.returns-in-Failed
-returns-in-Failed c = back_no c.requires.ready_u c.try_match-r.ensures c.in-Failed.is
-
-pub returns-in-Limit : goal.returns-in-Limit
-returns-in-Limit c = back_refused c.requires.ready_u c.try_match-r.ensures c.in-Limit.is
+pub returns-clause-gives : goal.returns-clause-gives
+returns-clause-gives c = back_told c.requires.ready_u c.try_match.ensures.gives _ _ _ _ (tried_is _ _ c.in_ok-r.was) c.is_some.ensures

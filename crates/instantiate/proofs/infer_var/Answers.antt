@@ -1,18 +1,12 @@
 -- The ways out by their laws of `Looking`.
-use Rattle.instantiate.proofs.Looking.{unbound, closed_ready, local_ready, closed_done, local_done}
+use Rattle.instantiate.proofs.Looking.{unbound, bound_ready, bound_done}
 use Rattle.instantiate.proofs.infer_var.Goals as goal
 
 pub of_scheme-requires : goal.of_scheme-requires
-of_scheme-requires c = record { base_len_bound = c.requires.base_len_bound; ready_instance = closed_ready c.requires.ready_look c.row_at-e.ensures c.in-Closed.is; x_lt_first_fresh = c.requires.ready_look.name }
-
-pub of_scheme-requires-in-Local : goal.of_scheme-requires-in-Local
-of_scheme-requires-in-Local c = record { base_len_bound = c.requires.base_len_bound; ready_instance = local_ready c.requires.ready_look c.row_at-e.ensures c.in-Local.is; x_lt_first_fresh = c.requires.ready_look.name }
+of_scheme-requires c = record { base_len_bound = c.requires.base_len_bound; ready_instance = bound_ready c.requires.ready_look c.row_at-e.ensures c.in-Closed.is; x_lt_first_fresh = c.requires.ready_look.name }
 
 pub returns-in-Nothing : goal.returns-in-Nothing
 returns-in-Nothing c = unbound c.requires.ready_look c.row_at-e.ensures c.in-Nothing.is
 
 pub returns-in-Closed : goal.returns-in-Closed
-returns-in-Closed c = closed_done c.requires.ready_look c.row_at-e.ensures c.of_scheme.ensures c.in-Closed.is
-
-pub returns-in-Local : goal.returns-in-Local
-returns-in-Local c = local_done c.requires.ready_look c.row_at-e.ensures c.of_scheme-in-Local.ensures c.in-Local.is
+returns-in-Closed c = bound_done c.requires.ready_look c.row_at-e.ensures c.of_scheme.ensures c.in-Closed.is

@@ -4,7 +4,7 @@ use Rattle.instantiate.proofs.Taking.{Taking}
 use Rattle.instantiate.proofs.take_preds.Given as goal
 
 abbrev pub invariant-loop-a : goal.invariant-loop-a
-invariant-loop-a l = Taking l.names (l.base ++ l.initial.work) (l.base ++ l.work) l.initial.binders l.binders l.top l.left l.tv l.dv l.vs l.ps l.l l.m l.t l.n
+invariant-loop-a l = Taking l.base.names.now (l.base.words.now ++ l.initial.work) (l.base.words.now ++ l.work) l.initial.binders l.binders l.initial.room.top l.initial.room.left l.fresh.tv l.fresh.dv l.vs l.ps l.l l.m l.room.top l.room.left
 
 abbrev pub decreases-loop-a : goal.decreases-loop-a
 decreases-loop-a l = l.l

@@ -10,13 +10,7 @@ pub bind-requires : goal.bind-requires
 bind-requires c = record { i_in_bounds = omega (arith, c.loop-i.invariant.names-length); i_in_bounds_2 = omega (arith, c.loop-i.invariant.index_length) }
 
 pub loop-i-preserved : goal.loop-i-preserved
-loop-i-preserved c = one_bound c.loop-i.invariant c.loop-i-test.true c.bind.auto.names c.bind.auto.index c.bind.ensures
-
-pub shape_of-names : goal.shape_of-names
-shape_of-names c = omega (arith, c.loop-i.invariant.names-length)
-
-pub shape_of-index : goal.shape_of-index
-shape_of-index c = omega (arith, c.loop-i.invariant.index_length)
+loop-i-preserved c = one_bound c.loop-i.invariant (omega arith) c.bind.auto.names c.bind.auto.index c.bind.ensures
 
 pub returns : goal.returns
 returns c = all_bound c.loop-i.invariant (omega arith)

@@ -1,13 +1,11 @@
 -- `nodes::int` meets its contract. Assumes nothing.
-use native.Mathlib.Omega.{arith}
+use Rattle.reader.proofs.Counts.{some_was, none_was}
 use Rattle.nodes.proofs.Tags.{int_is, int_cut}
+use Rattle.nodes.proofs.Numbers.{refused}
 use Rattle.nodes.proofs.int.Goals as goal
 
-pub overflow_add-result : goal.overflow_add-result
-overflow_add-result c = let f = rw c.in-Is.is at c.eight-f.ensures in let w = f.is.1 in let l = c.well_formed.0.0 in omega arith
+pub returns-in_err-ok_or : goal.returns-in_err-ok_or
+returns-in_err-ok_or c = let q = none_was _ _ _ _ c.ok_or.ensures.value c.in_err-ok_or.was in refused _ _ _ _ _ _ c.from_residual.ensures.1 (rw q.1 (int_cut _ _ (rw q.0 at c.eight.ensures)))
 
-pub returns-in-Cut : goal.returns-in-Cut
-returns-in-Cut c = int_cut _ _ (rw c.in-Cut.is at c.eight-f.ensures)
-
-pub returns-in-Is : goal.returns-in-Is
-returns-in-Is c = int_is _ _ _ (rw c.in-Is.is at c.eight-f.ensures)
+pub returns : goal.returns
+returns c = int_is _ _ _ (rw (some_was _ _ _ _ c.ok_or.ensures.value c.in_ok-ok_or.was) at c.eight.ensures)

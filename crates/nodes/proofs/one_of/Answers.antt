@@ -1,13 +1,10 @@
 -- `nodes::one_of` meets its contract. Assumes nothing.
-use native.Mathlib.Omega.{arith}
-use Rattle.nodes.proofs.Numbers.{one_of_at, one_of_none}
+use Rattle.reader.proofs.Counts.{some_was, none_was}
+use Rattle.nodes.proofs.Numbers.{one_of_at, one_of_none, refused}
 use Rattle.nodes.proofs.one_of.Goals as goal
 
-pub overflow_add-result : goal.overflow_add-result
-overflow_add-result c = let p = rw c.in-At.is at c.pick-p.ensures in let w = p.is.0.1 in let l = c.well_formed.0.0 in omega arith
+pub returns-in_err-ok_or : goal.returns-in_err-ok_or
+returns-in_err-ok_or c = let q = none_was _ _ _ _ c.ok_or.ensures.value c.in_err-ok_or.was in refused _ _ _ _ _ _ c.from_residual.ensures.1 (rw q.1 (one_of_none c.args.n c.args.of _ _ _ c.many.ensures (rw q.0 at c.pick.ensures)))
 
-pub returns-in-At : goal.returns-in-At
-returns-in-At c = one_of_at c.args.n c.args.of _ _ _ _ c.many-m.ensures (rw c.in-At.is at c.pick-p.ensures)
-
-pub returns-in-Nothing : goal.returns-in-Nothing
-returns-in-Nothing c = one_of_none c.args.n c.args.of _ _ _ c.many-m.ensures (rw c.in-Nothing.is at c.pick-p.ensures)
+pub returns : goal.returns
+returns c = one_of_at c.args.n c.args.of _ _ _ _ c.many.ensures (rw (some_was _ _ _ _ c.ok_or.ensures.value c.in_ok-ok_or.was) at c.pick.ensures)

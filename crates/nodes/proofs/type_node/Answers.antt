@@ -4,26 +4,17 @@ use Rattle.nodes.proofs.Numbers.{sized}
 use Rattle.nodes.proofs.Tags.{type_var, type_con, type_arrow, type_unknown, type_cut}
 use Rattle.nodes.proofs.type_node.Goals as goal
 
-pub overflow_add-at : goal.overflow_add-at
-overflow_add-at c = let f = rw c.in-Is.is at c.byte-t.ensures in let w = f.is.1 in let l = c.well_formed.0.0 in omega arith
+pub returns-in-Some-eq0 : goal.returns-in-Some-eq0
+returns-in-Some-eq0 c = type_var _ _ _ _ _ c.in-Some-eq0.ensures c.in-Some-eq0.field-0-test c.name_for.ensures
 
-pub returns-then-tag-eq0 : goal.returns-then-tag-eq0
-returns-then-tag-eq0 c = type_var _ _ _ _ _ (rw c.in-Is.is at c.byte-t.ensures) c.if-tag-eq0.true c.name_for.ensures
+pub returns-in-Some-eq1 : goal.returns-in-Some-eq1
+returns-in-Some-eq1 c = type_con _ _ _ _ _ c.in-Some-eq1.ensures c.in-Some-eq1.field-0-test c.constructor.ensures
 
-pub overflow_add-at-then-tag-eq1 : goal.overflow_add-at-then-tag-eq1
-overflow_add-at-then-tag-eq1 c = let f = rw c.in-Is.is at c.byte-t.ensures in let w = f.is.1 in let l = c.well_formed.0.0 in omega arith
+pub returns-in-Some-eq2 : goal.returns-in-Some-eq2
+returns-in-Some-eq2 c = type_arrow _ _ _ _ _ c.in-Some-eq2.ensures c.in-Some-eq2.field-0-test (sized _ _ _ _ _ _ c.two.ensures)
 
-pub returns-then-tag-eq1 : goal.returns-then-tag-eq1
-returns-then-tag-eq1 c = type_con _ _ _ _ _ (rw c.in-Is.is at c.byte-t.ensures) c.if-tag-eq1.true c.constructor.ensures
+pub returns-in_default : goal.returns-in_default
+returns-in_default c = type_unknown _ _ _ _ c.in_default.ensures (omega arith)
 
-pub overflow_add-at-then-tag-eq2 : goal.overflow_add-at-then-tag-eq2
-overflow_add-at-then-tag-eq2 c = let f = rw c.in-Is.is at c.byte-t.ensures in let w = f.is.1 in let l = c.well_formed.0.0 in omega arith
-
-pub returns-then-tag-eq2 : goal.returns-then-tag-eq2
-returns-then-tag-eq2 c = type_arrow _ _ _ _ _ (rw c.in-Is.is at c.byte-t.ensures) c.if-tag-eq2.true (sized _ _ _ _ _ _ c.two.ensures)
-
-pub returns-in-Cut : goal.returns-in-Cut
-returns-in-Cut c = type_cut _ _ _ (rw c.in-Cut.is at c.byte-t.ensures)
-
-pub returns-else-tag-eq2 : goal.returns-else-tag-eq2
-returns-else-tag-eq2 c = type_unknown _ _ _ _ (rw c.in-Is.is at c.byte-t.ensures) (omega arith)
+pub returns-in_default-2 : goal.returns-in_default-2
+returns-in_default-2 c = type_cut _ _ _ (rw c.in_default.is at c.byte.ensures)

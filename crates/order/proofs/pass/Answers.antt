@@ -1,4 +1,4 @@
--- The loop's invariant: the pass has come to row r. The measure is how many rows are left.
+-- The loop's invariant: the pass has come to row r.
 use mathlib.Core.Path.{◌∙◌}
 use native.Mathlib.Omega.{arith}
 use Rattle.order.proofs.Gathering.{none_passed, one_passed, all_passed}
@@ -9,12 +9,6 @@ loop-r-init c = none_passed _ c.requires.gathered
 
 pub step-m-requires : goal.step-m-requires
 step-m-requires c = record { names = c.requires.names; names_len = c.requires.names_len; order_len = c.loop-r.invariant.passed.wide ∙ c.requires.order_len; r_bound = c.loop-r-test.true; gathered = c.loop-r.invariant.passed.gathered }
-
-pub overflow_add-r : goal.overflow_add-r
-overflow_add-r c = let h = c.loop-r-test.true in omega arith
-
-pub loop-r-smaller : goal.loop-r-smaller
-loop-r-smaller c = let h = c.loop-r-test.true in omega arith
 
 pub loop-r-preserved : goal.loop-r-preserved
 loop-r-preserved c = one_passed c.loop-r.invariant c.loop-r-test.true c.step-m.ensures

@@ -1,11 +1,7 @@
--- The loop's invariant: what all rows give is what the rows before row i have become, and then what the others give. The
-use Prim.Native.Nat.{◌-◌}
+-- The loop's invariant: what all rows give is what the rows before row i have become, and then what the others give.
 use mathlib.Core.List.{◌++◌}
 use Rattle.pending.proofs.Loops.{Sweeping}
 use Rattle.pending.proofs.apply_rows.Given as goal
 
 abbrev pub invariant-loop-i : goal.invariant-loop-i
-invariant-loop-i l = Sweeping l.names (l.base ++ l.initial.work) l.initial.binders l.top l.left l.at l.k l.n (l.base ++ l.work) l.binders l.t l.m l.i
-
-abbrev pub decreases-loop-i : goal.decreases-loop-i
-decreases-loop-i l = l.n - l.i
+invariant-loop-i l = Sweeping l.base.names.now (l.base.words.now ++ l.initial.work) l.initial.binders l.initial.room.top l.initial.room.left l.sub.at l.sub.k l.n (l.base.words.now ++ l.work) l.binders l.room.top l.room.left l.i

@@ -20,7 +20,7 @@ pub put-requires : goal.put-requires
 put-requires c = one_row c.requires.ready_one c.row_of-r.ensures
 
 pub overflow_add-result : goal.overflow_add-result
-overflow_add-result c = let p = one_room c.requires.ready_one c.row_of-r.ensures in let g = c.well_formed.0.0 in let k = c.well_formed.1.0.0 in let j = joined c.args.base.now c.args.work.now in omega arith
+overflow_add-result c = let p = one_room c.requires.ready_one c.row_of-r.ensures in let g = c.well_formed.0.1.1.0.0.1.0 in let k = c.well_formed.1.0.0 in let j = joined c.args.base.words.now c.args.work.now in omega arith
 
 pub returns : goal.returns
 returns c = one_added c.requires.ready_one c.row_of-r.ensures c.make_type-t.ensures c.put.ensures

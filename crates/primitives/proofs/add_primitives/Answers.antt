@@ -1,4 +1,4 @@
--- The loop's invariant: the first p primitives are added. The measure is how many are left.
+-- The loop's invariant: the first p primitives are added.
 use native.Mathlib.Omega.{arith}
 use Rattle.scope.proofs.Sweeping.{same_short}
 use Rattle.primitives.proofs.Added.{none_added, next_ready, next_added, all_added}
@@ -10,17 +10,11 @@ loop-p-init c = none_added c.requires.ready_prims
 pub add_one-t-requires : goal.add_one-t-requires
 add_one-t-requires c = let a = c.requires.base_len_bound in let g = c.loop-p.invariant.grown in record { base_len_bound = omega arith; ready_one = next_ready c.requires.ready_prims c.loop-p.invariant c.loop-p-test.true }
 
-pub overflow_add-p : goal.overflow_add-p
-overflow_add-p c = let h = c.loop-p-test.true in omega arith
-
-pub loop-p-smaller : goal.loop-p-smaller
-loop-p-smaller c = let h = c.loop-p-test.true in omega arith
-
 pub loop-p-preserved : goal.loop-p-preserved
 loop-p-preserved c = next_added c.requires.ready_prims c.loop-p.invariant c.loop-p-test.true c.add_one-t.ensures
 
 pub shape_of-work : goal.shape_of-work
-shape_of-work c = same_short c.args.base.now c.args.work.now c.loop-p.work c.loop-p.invariant.long
+shape_of-work c = same_short c.args.base.words.now c.args.work.now c.loop-p.work c.loop-p.invariant.long
 
 pub shape_of-env : goal.shape_of-env
 shape_of-env c = c.loop-p.invariant.wide

@@ -1,10 +1,6 @@
--- The loop's invariant: none of the words so far is the one. The measure is how many are left.
-use Prim.Native.Nat.{◌-◌}
+-- The loop's invariant: none of the words so far is the one.
 use Rattle.rename.proofs.Places.{Without}
 use Rattle.rename.proofs.letter_of.Given as goal
 
 abbrev pub invariant-loop-k : goal.invariant-loop-k
 invariant-loop-k l = Without l.letters l.x l.k
-
-abbrev pub decreases-loop-k : goal.decreases-loop-k
-decreases-loop-k l = l.n - l.k

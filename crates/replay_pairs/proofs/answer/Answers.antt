@@ -1,5 +1,5 @@
 -- The case is answered where the test says that it is one.
 use Rattle.replay_pairs.proofs.answer.Goals as goal
 
-pub solve-requires : goal.solve-requires
-solve-requires g c = record { base_len = c.requires.base_len; names = c.requires.names; fits = c.is_ready.ensures c.if-is_ready.true }
+pub run-r-requires : goal.run-r-requires
+run-r-requires g c = record { base_len = c.requires.base_len; names = c.requires.names; fits = c.is_ready.ensures c.if-not-is_ready.false }

@@ -3,7 +3,7 @@ use Prim.Native.Nat.{◌+◌, ◌*◌}
 use Rattle.resolve.proofs.+all_resolved_resolve.Given as goal
 
 abbrev pub decreases-all_resolved : goal.decreases-all_resolved
-decreases-all_resolved l = 2 * l.left + 1
+decreases-all_resolved l = 2 * l.room.now.left + 1
 
 abbrev pub decreases-resolve : goal.decreases-resolve
-decreases-resolve l = 2 * l.left
+decreases-resolve l = 2 * l.room.now.left

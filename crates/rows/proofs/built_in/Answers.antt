@@ -9,7 +9,7 @@ pub loop-b-init : goal.loop-b-init
 loop-b-init c = below_none _
 
 pub returns-then-same_row : goal.returns-then-same_row
-returns-then-same_row c = record { is = (c.loop-b-test.true, sym (eqb_true _ _ (sym c.same_row.ensures ∙ c.if-same_row.true))) }
+returns-then-same_row c = record { is = (omega arith, sym (eqb_true _ _ (sym c.same_row.ensures ∙ c.if-same_row.true))) }
 
 pub loop-b-preserved : goal.loop-b-preserved
 loop-b-preserved c = below_more _ _ c.loop-b.invariant (λ e. eqb_false _ _ (sym c.same_row.ensures ∙ c.if-same_row.false) (sym e))

@@ -10,10 +10,7 @@ pub put_row-requires : goal.put_row-requires
 put_row-requires c = omega (arith, c.loop-r.invariant.length)
 
 pub loop-r-preserved : goal.loop-r-preserved
-loop-r-preserved c = one_filled _ _ _ _ c.loop-r.invariant (omega arith) c.first_key-k.ensures c.put_row.ensures
-
-pub shape_of-names : goal.shape_of-names
-shape_of-names c = omega (arith, c.loop-r.invariant.length)
+loop-r-preserved c = one_filled _ _ _ _ c.loop-r.invariant (omega arith) c.first_key.ensures c.put_row.ensures
 
 pub returns : goal.returns
 returns c = all_filled _ _ c.loop-r.invariant (omega arith)

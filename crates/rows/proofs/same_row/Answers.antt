@@ -1,17 +1,29 @@
 -- `rows::same_row` meets its contract: the first words that differ decide. Assumes nothing.
-use mathlib.Core.Path.{sym, ◌∙◌}
+use mathlib.Core.Path.{◌≡◌, refl, ◌∙◌}
+use mathlib.Core.Bool.{◌&&◌}
+use Prim.Native.Nat.{◌+◌, ◌*◌}
 use native.Mathlib.Omega.{arith}
-use Rattle.rows.proofs.Cells.{row_differs, row_last}
+use lib.Dec.{eqb}
+use lib.ListN.{get_or}
+use borrow.Author.Tests.{eq-eqb, ne_eqb}
+use Rattle.rows.proofs.Cells.{words_tell, both_of, first_fails}
 use Rattle.rows.proofs.same_row.Goals as goal
+use Rattle.rows.proofs.same_row.Goals.{then-k-names, else-k-names, then-k-names-2, else-k-names-2}
 
-pub returns-then-k-word : goal.returns-then-k-word
-returns-then-k-word c = row_differs c.args.k _ _ (omega arith) (record { below = λ i. omega (arith, c.shared_slice_known-1.given i) }) (λ s. c.if-k-word.true (s.a_same ∙ sym c.word.ensures))
+pub returns-then-k-names-3 : goal.returns-then-k-names-3
+returns-then-k-names-3 c =
+    let p : c.if-k-names.value ≡ (eqb c.args.k.a (get_or c.args.names.now (4 * c.args.r) 0) && eqb c.args.k.b (get_or c.args.names.now (4 * c.args.r + 1) 0)) =
+    elim c.if-k-names.branch [ then-k-names w ↦ both_of _ refl (eq-eqb _ _ w.if-k-names.true) w.value-is | else-k-names w ↦ first_fails _ refl (ne_eqb _ _ w.if-k-names.false) w.value-is ] in
+    let q : c.if-k-names-2.value ≡ ((eqb c.args.k.a (get_or c.args.names.now (4 * c.args.r) 0) && eqb c.args.k.b (get_or c.args.names.now (4 * c.args.r + 1) 0))
+    && eqb c.args.k.c (get_or c.args.names.now (4 * c.args.r + 2) 0)) =
+    elim c.if-k-names-2.branch [ then-k-names-2 w ↦ both_of _ p w.if-k-names-2.true w.value-is | else-k-names-2 w ↦ first_fails _ p w.if-k-names-2.false w.value-is ] in
+    both_of _ q c.if-k-names-3.true refl ∙ words_tell c.args.k _ _ (omega arith) (record { below = λ i. omega (arith, c.type_inv.names i) })
 
-pub returns-then-k-word-2 : goal.returns-then-k-word-2
-returns-then-k-word-2 c = row_differs c.args.k _ _ (omega arith) (record { below = λ i. omega (arith, c.shared_slice_known-1.given i) }) (λ s. c.if-k-word-2.true (s.b_same ∙ sym c.word-2.ensures))
-
-pub returns-then-k-word-3 : goal.returns-then-k-word-3
-returns-then-k-word-3 c = row_differs c.args.k _ _ (omega arith) (record { below = λ i. omega (arith, c.shared_slice_known-1.given i) }) (λ s. c.if-k-word-3.true (s.c_same ∙ sym c.word-3.ensures))
-
-pub returns : goal.returns
-returns c = row_last c.args.k _ _ _ (omega arith) (record { below = λ i. omega (arith, c.shared_slice_known-1.given i) }) (c.if-k-word.false ∙ c.word.ensures) (c.if-k-word-2.false ∙ c.word-2.ensures) (c.if-k-word-3.false ∙ c.word-3.ensures) c.word-4.ensures
+pub returns-else-k-names-3 : goal.returns-else-k-names-3
+returns-else-k-names-3 c =
+    let p : c.if-k-names.value ≡ (eqb c.args.k.a (get_or c.args.names.now (4 * c.args.r) 0) && eqb c.args.k.b (get_or c.args.names.now (4 * c.args.r + 1) 0)) =
+    elim c.if-k-names.branch [ then-k-names w ↦ both_of _ refl (eq-eqb _ _ w.if-k-names.true) w.value-is | else-k-names w ↦ first_fails _ refl (ne_eqb _ _ w.if-k-names.false) w.value-is ] in
+    let q : c.if-k-names-2.value ≡ ((eqb c.args.k.a (get_or c.args.names.now (4 * c.args.r) 0) && eqb c.args.k.b (get_or c.args.names.now (4 * c.args.r + 1) 0))
+    && eqb c.args.k.c (get_or c.args.names.now (4 * c.args.r + 2) 0)) =
+    elim c.if-k-names-2.branch [ then-k-names-2 w ↦ both_of _ p w.if-k-names-2.true w.value-is | else-k-names-2 w ↦ first_fails _ p w.if-k-names-2.false w.value-is ] in
+    first_fails _ q c.if-k-names-3.false refl ∙ words_tell c.args.k _ _ (omega arith) (record { below = λ i. omega (arith, c.type_inv.names i) })

@@ -1,9 +1,8 @@
 -- Each way out by its law of `Sweeping`.
-use Rattle.scope.proofs.Sweeping.{row_nothing, row_closed, row_ready, row_applied, row_refused}
+use Rattle.errors.proofs.Thrown.{thrown}
+use Rattle.scope.proofs.Seen.{qual_ok, qual_err}
+use Rattle.scope.proofs.Sweeping.{row_nothing, row_closed, row_applied, row_refused}
 use Rattle.scope.proofs.apply_row.Goals as goal
-
-pub apply_scheme-q-requires : goal.apply_scheme-q-requires
-apply_scheme-q-requires c = record { base_len_bound = c.requires.base_len_bound; ready_scheme = row_ready c.requires.ready_row c.row_at-e.ensures c.in-Local.is }
 
 pub returns-in-Nothing : goal.returns-in-Nothing
 returns-in-Nothing c = row_nothing c.requires.ready_row c.row_at-e.ensures c.in-Nothing.is
@@ -11,8 +10,8 @@ returns-in-Nothing c = row_nothing c.requires.ready_row c.row_at-e.ensures c.in-
 pub returns-in-Closed : goal.returns-in-Closed
 returns-in-Closed c = row_closed c.requires.ready_row c.row_at-e.ensures c.in-Closed.is
 
-pub returns-in-Done : goal.returns-in-Done
-returns-in-Done c = row_applied c.requires.ready_row c.row_at-e.ensures c.in-Local.is c.apply_scheme-q.ensures c.in-Done.is c.put.ensures
+pub returns-in_ok-q-in-Local : goal.returns-in_ok-q-in-Local
+returns-in_ok-q-in-Local c = row_applied c.requires.ready_row c.row_at-e.ensures c.in-Local.is c.apply_scheme.ensures (qual_ok c.in_ok-q-in-Local.was) c.put.ensures
 
-pub returns-in-Refused : goal.returns-in-Refused
-returns-in-Refused c = row_refused c.requires.ready_row c.row_at-e.ensures c.in-Local.is c.apply_scheme-q.ensures c.in-Refused.is
+pub returns-in_err-q-in-Local : goal.returns-in_err-q-in-Local
+returns-in_err-q-in-Local c = rw (thrown _ c.from_residual.ensures.1) (row_refused c.requires.ready_row c.row_at-e.ensures c.in-Local.is c.apply_scheme.ensures (qual_err c.in_err-q-in-Local.was))

@@ -4,7 +4,7 @@ use Rattle.scope.proofs.FreeLaws.{Looking}
 use Rattle.scope.proofs.in_preds.Given as goal
 
 abbrev pub invariant-loop-a : goal.invariant-loop-a
-invariant-loop-a l = Looking l.names (l.base ++ l.work) l.top l.ps l.x l.l
+invariant-loop-a l = Looking l.base.names.now (l.base.words.now ++ l.work) l.top l.ps l.x l.l
 
 abbrev pub decreases-loop-a : goal.decreases-loop-a
 decreases-loop-a l = l.l

@@ -1,19 +1,13 @@
 -- `sections::section` meets its contract. Assumes nothing.
-use native.Mathlib.Omega.{arith}
+use Rattle.errors.proofs.Thrown.{thrown}
 use Rattle.sections.proofs.Going.{section_read, section_stops, section_bad}
 use Rattle.sections.proofs.section.Goals as goal
 
-pub overflow_add-at : goal.overflow_add-at
-overflow_add-at c = let p = rw c.in-Is.is at c.counted-c.ensures in let w = p.is.2 in let l = c.well_formed.0.0 in omega arith
+pub returns-in_err-count : goal.returns-in_err-count
+returns-in_err-count c = rw (thrown _ c.from_residual.ensures.1) (section_bad _ _ _ c.args.part _ _ (rw c.limit.ensures at c.in_err-count.ensures))
 
-pub items-p-requires : goal.items-p-requires
-items-p-requires c = let p = rw c.in-Is.is at c.counted-c.ensures in record { names_bound = c.requires.names_bound; index_len = c.requires.index_len; m_bound = rw c.limit-most.ensures at p.is.1; at_in_bounds = p.is.2 }
+pub returns-in_err-end : goal.returns-in_err-end
+returns-in_err-end c = rw (thrown _ c.from_residual-in_err-end.ensures.1) (section_stops _ _ _ _ c.args.part _ _ (rw c.limit.ensures at c.in_ok-count.ensures) _ c.in_err-end.ensures)
 
-pub returns-in-Next : goal.returns-in-Next
-returns-in-Next c = section_read _ _ _ _ c.args.k _ _ (rw c.limit-most.ensures at (rw c.in-Is.is at c.counted-c.ensures)) _ (rw c.in-Next.is at c.items-p.ensures)
-
-pub returns-in-Bad-p : goal.returns-in-Bad-p
-returns-in-Bad-p c = section_stops _ _ _ _ c.args.k _ _ (rw c.limit-most.ensures at (rw c.in-Is.is at c.counted-c.ensures)) _ (rw c.in-Bad-p.is at c.items-p.ensures)
-
-pub returns-in-Bad : goal.returns-in-Bad
-returns-in-Bad c = section_bad _ _ _ c.args.k _ _ (rw c.limit-most.ensures at (rw c.in-Bad.is at c.counted-c.ensures))
+pub returns : goal.returns
+returns c = section_read _ _ _ _ c.args.part _ _ (rw c.limit.ensures at c.in_ok-count.ensures) _ c.in_ok-end.ensures

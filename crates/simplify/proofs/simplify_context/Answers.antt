@@ -1,33 +1,15 @@
--- The loop's invariant: what all rows give is what those from row i on give now. The measure is how many are left.
+-- What all rows give is what those from row i on give now.
 use native.Mathlib.Omega.{arith}
 use Rattle.pairs.proofs.Frames.{long}
-use Rattle.ast.proofs.Join.{joined}
-use Rattle.simplify.proofs.Loop.{going, all_done, turn_stops, turn_goes}
+use Rattle.simplify.proofs.Loop.{going, all_done, turn_goes}
+use Rattle.simplify.proofs.Seen.{ok_is}
 use Rattle.simplify.proofs.simplify_context.Goals as goal
 
 pub loop-i-init : goal.loop-i-init
 loop-i-init c = going _ c.requires.ready_simplify
 
-pub sift-r-requires : goal.sift-r-requires
-sift-r-requires c = let x = c.requires.base_len_bound in let y = c.loop-i.invariant.more in record { base_len_bound = omega arith; ready_simplify = c.loop-i.invariant.ready; i_lt_n = c.loop-i-test.true }
-
-pub shape_of-work-in-Refused : goal.shape_of-work-in-Refused
-shape_of-work-in-Refused c = let x = joined c.args.base.now c.args.work.now in let y = joined c.args.base.now c.loop-i.work in let l = c.loop-i.invariant.long in let k = c.sift-r.auto.work in omega arith
-
-pub shape_of-binders-in-Refused : goal.shape_of-binders-in-Refused
-shape_of-binders-in-Refused c = let l = c.loop-i.invariant.rows_long in let k = c.sift-r.auto.binders in omega arith
-
-pub returns-in-Refused : goal.returns-in-Refused
-returns-in-Refused c = turn_stops c.loop-i.invariant c.sift-r.ensures c.in-Refused.is
-
 pub loop-i-preserved : goal.loop-i-preserved
-loop-i-preserved c = turn_goes c.loop-i.invariant c.sift-r.ensures c.in-Done.is c.loop-i-test.true (long c.args.base.now c.sift-r.new.work c.loop-i.work c.sift-r.auto.work) c.sift-r.auto.binders
-
-pub shape_of-work : goal.shape_of-work
-shape_of-work c = let x = joined c.args.base.now c.args.work.now in let y = joined c.args.base.now c.loop-i.work in let l = c.loop-i.invariant.long in omega arith
-
-pub shape_of-binders : goal.shape_of-binders
-shape_of-binders c = c.loop-i.invariant.rows_long
+loop-i-preserved c = turn_goes c.loop-i.invariant c.sift.ensures (ok_is c.in_ok-sift.was) c.loop-i-test.true (long c.args.base.words.now c.sift.new.work c.loop-i.work c.sift.auto.work) c.sift.auto.binders
 
 pub returns : goal.returns
 returns c = all_done c.loop-i.invariant (let l = c.loop-i-test.false in omega arith)

@@ -1,25 +1,13 @@
--- `spelling::all_digits` meets its contract. The loop's invariant: the bytes before i are digits. Assumes nothing.
-use native.Mathlib.Omega.{arith}
-use Rattle.spelling.proofs.Loops.{none_passed, one_passed, one_fails, all_passed, no_digits, some_digits}
+-- `spelling::all_digits` meets its contract. Assumes nothing.
+use Rattle.std.proofs.Common.{◌≡◌, ℕ, ◌<◌, length, get_or, true, rules, ◌↔◌}
+use Rattle.std.specs.Char.{is_ascii_digit}
+use Rattle.spelling.proofs.Loops.{digits_each, no_digits}
 use Rattle.spelling.proofs.all_digits.Goals as goal
 
-pub returns-then-len-eq0 : goal.returns-then-len-eq0
-returns-then-len-eq0 c = no_digits _ _ _ c.if-len-eq0.true
+pub returns-then-not-is_empty : goal.returns-then-not-is_empty
+returns-then-not-is_empty c =
+    let h : (c.all.result ≡ true) ↔ ((k : ℕ) → k < length c.args.text.now → is_ascii_digit (get_or c.args.text.now k 0) ≡ true) = search rules in
+    digits_each _ _ (rw c.if-not-is_empty.true at c.is_empty.ensures) h.0 h.1
 
-pub loop-left-init : goal.loop-left-init
-loop-left-init c = none_passed _ _ _ _
-
-pub byte-b-requires : goal.byte-b-requires
-byte-b-requires c = omega (arith, c.loop-left.invariant.ends)
-
-pub returns-then-not-is_digit : goal.returns-then-not-is_digit
-returns-then-not-is_digit c = some_digits _ _ _ _ c.if-len-eq0.false (one_fails c.loop-left.invariant (omega arith) c.byte-b.ensures c.is_digit.ensures (mathlib.Core.Path.ap mathlib.Core.Bool.not c.if-not-is_digit.true))
-
-pub overflow_add-i : goal.overflow_add-i
-overflow_add-i c = omega (arith, c.loop-left.invariant.ends)
-
-pub loop-left-preserved : goal.loop-left-preserved
-loop-left-preserved c = one_passed c.loop-left.invariant (omega arith) c.byte-b.ensures c.is_digit.ensures (mathlib.Core.Path.ap mathlib.Core.Bool.not c.if-not-is_digit.false)
-
-pub returns : goal.returns
-returns c = some_digits _ _ _ _ c.if-len-eq0.false (all_passed c.loop-left.invariant (omega arith))
+pub returns-else-not-is_empty : goal.returns-else-not-is_empty
+returns-else-not-is_empty c = rw c.if-not-is_empty.false (no_digits _ (rw c.if-not-is_empty.false at c.is_empty.ensures))

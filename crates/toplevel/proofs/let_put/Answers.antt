@@ -6,5 +6,5 @@ use Rattle.toplevel.proofs.let_put.Goals as goal
 pub returns-then-c : goal.returns-then-c
 returns-then-c c = put_closed c.requires _ _ _ (sym c.if-c.true ∙ c.is_closed-c.ensures) c.put.ensures
 
-pub returns : goal.returns
-returns c = put_local c.requires _ _ _ c.put-2.ensures
+pub returns-else-c : goal.returns-else-c
+returns-else-c c = put_local c.requires _ _ _ c.put-else-c.ensures

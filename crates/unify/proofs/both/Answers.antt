@@ -1,20 +1,14 @@
 -- The second type is applied over the table that the first one left.
-use native.Mathlib.Omega.{arith}
-use Rattle.pairs.proofs.Frames.{long}
-use Rattle.unify.proofs.Twice.{two_first, two_fails, two_more, two_ready, two_fails_2, two_done}
+use Rattle.errors.proofs.Thrown.{thrown}
+use Rattle.apply.proofs.Seen.{ok_is, err_is}
+use Rattle.unify.proofs.Twice.{two_fails, two_fails_2, two_done}
 use Rattle.unify.proofs.both.Goals as goal
 
-pub apply-r-requires : goal.apply-r-requires
-apply-r-requires c = record { base_len_bound = c.requires.base_len_bound; ready = two_first c.requires.ready_one }
+pub returns : goal.returns
+returns c = two_done c.requires.ready_one c.apply.ensures (ok_is c.in_ok-left.was) c.apply-2.ensures (ok_is c.in_ok-right.was)
 
-pub apply-q-requires : goal.apply-q-requires
-apply-q-requires c = record { base_len_bound = let m = two_more c.requires.ready_one c.apply-r.ensures c.in-Done.is in omega arith; ready = two_ready c.requires.ready_one c.apply-r.ensures c.in-Done.is (long c.args.base.now c.apply-r.new.work c.args.work.now c.apply-r.auto.work) }
+pub returns-in_err-right : goal.returns-in_err-right
+returns-in_err-right c = rw (thrown _ c.from_residual-in_err-right.ensures.1) (two_fails_2 c.requires.ready_one c.apply.ensures (ok_is c.in_ok-left.was) c.apply-2.ensures (err_is c.in_err-right.was))
 
-pub returns-in-Done-q : goal.returns-in-Done-q
-returns-in-Done-q c = two_done c.requires.ready_one c.apply-r.ensures c.in-Done.is c.apply-q.ensures c.in-Done-q.is
-
-pub returns-in-Refused-q : goal.returns-in-Refused-q
-returns-in-Refused-q c = two_fails_2 c.requires.ready_one c.apply-r.ensures c.in-Done.is c.apply-q.ensures c.in-Refused-q.is
-
-pub returns-in-Refused : goal.returns-in-Refused
-returns-in-Refused c = two_fails c.requires.ready_one c.apply-r.ensures c.in-Refused.is
+pub returns-in_err-left : goal.returns-in_err-left
+returns-in_err-left c = rw (thrown _ c.from_residual.ensures.1) (two_fails c.requires.ready_one c.apply.ensures (err_is c.in_err-left.was))

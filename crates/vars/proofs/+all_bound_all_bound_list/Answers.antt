@@ -1,14 +1,8 @@
 -- Each way out by its law of `Bound`. The measure is the word: what a word refers to lies below it.
 use native.Mathlib.Omega.{arith}
-use Rattle.ast.proofs.Laws.{con_child, arrow_left, arrow_right, cons_head, cons_tail, node_room}
+use Rattle.ast.proofs.Laws.{con_child, arrow_left, arrow_right, cons_head, cons_tail}
 use Rattle.vars.proofs.Bound.{bound_var, bound_con, bound_right, unbound_left, bound_nil, bound_rest, unbound_head}
 use Rattle.vars.proofs.+all_bound_all_bound_list.Goals as goal
-
-pub all_bound-shape_at-s-requires : goal.all_bound-shape_at-s-requires
-all_bound-shape_at-s-requires t c = node_room c.requires.node_2
-
-pub all_bound-has_var-requires : goal.all_bound-has_var-requires
-all_bound-has_var-requires t c = record { names = c.requires.names; node = c.requires.node }
 
 pub all_bound-all_bound_list-requires : goal.all_bound-all_bound_list-requires
 all_bound-all_bound_list-requires t c = let k = con_child c.requires.node_2 c.shape_at-s.ensures c.in-Con.is in (omega arith, (c.requires.names, (c.requires.node, k.1)))
@@ -30,9 +24,6 @@ all_bound-returns-in-Con t c = bound_con _ c.requires.node_2 c.shape_at-s.ensure
 
 pub all_bound-returns-else-all_bound : goal.all_bound-returns-else-all_bound
 all_bound-returns-else-all_bound t c = unbound_left _ c.requires.node_2 c.shape_at-s.ensures _ c.in-Arrow.is c.all_bound.ensures c.if-all_bound.false
-
-pub all_bound_list-cell_at-c-requires : goal.all_bound_list-cell_at-c-requires
-all_bound_list-cell_at-c-requires t c = node_room c.requires.node_2
 
 pub all_bound_list-all_bound-requires : goal.all_bound_list-all_bound-requires
 all_bound_list-all_bound-requires t c = let k = cons_head c.requires.node_2 c.cell_at-c.ensures c.in-Cons.is in (omega arith, (c.requires.names, (c.requires.node, k.1)))

@@ -1,13 +1,6 @@
 -- The loop's invariant: what is left of the list has the variable just where all of it has. The measure is the list's word.
-use Rattle.ast.proofs.Laws.{node_room}
-use Rattle.vars.proofs.VarLaws.{seeking, seeks_none, seeks_hit, seeks_on}
+use Rattle.vars.proofs.VarLaws.{seeks_none, seeks_hit, seeks_on}
 use Rattle.vars.proofs.has_var.Goals as goal
-
-pub loop-a-init : goal.loop-a-init
-loop-a-init c = seeking _ c.requires.node
-
-pub cell_at-c-requires : goal.cell_at-c-requires
-cell_at-c-requires c = node_room c.loop-a.invariant.node
 
 pub returns-in-Nil : goal.returns-in-Nil
 returns-in-Nil c = seeks_none c.requires.names c.loop-a.invariant c.cell_at-c.ensures c.in-Nil.is

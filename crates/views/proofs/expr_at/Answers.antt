@@ -3,4 +3,4 @@ use Rattle.views.proofs.ExprLaws.{expr_placed}
 use Rattle.views.proofs.expr_at.Goals as goal
 
 pub returns : goal.returns
-returns c = expr_placed _ _ _ _ _ c.place-at.ensures c.expr_read.ensures
+returns c = expr_placed _ _ _ _ _ c.word.ensures c.expr_read.ensures

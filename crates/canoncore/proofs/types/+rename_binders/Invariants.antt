@@ -2,4 +2,4 @@
 use Rattle.canoncore.proofs.types.+rename_binders.Given as goal
 
 abbrev pub decreases-rename_binders : goal.decreases-rename_binders
-decreases-rename_binders l = l.left
+decreases-rename_binders l = l.room.now.left

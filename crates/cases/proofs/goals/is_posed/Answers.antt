@@ -1,11 +1,6 @@
 -- Each way out but one says no.
-use mathlib.Core.Path.{sym}
 use native.Mathlib.Omega.{arith}
-use Rattle.cases.proofs.Never.{never}
 use Rattle.cases.proofs.goals.is_posed.Goals as goal
-
-pub returns-then-h-ge65536 : goal.returns-then-h-ge65536
-returns-then-h-ge65536 c = λ e. never (sym e)
 
 pub is_short-requires : goal.is_short-requires
 is_short-requires c = (c.is_ready.ensures c.if-is_ready.true).first
@@ -15,9 +10,3 @@ have_heads-requires c = let f = c.is_ready.ensures c.if-is_ready.true in let r =
 
 pub returns-then-is_short : goal.returns-then-is_short
 returns-then-is_short c = λ e. record { fits = c.is_ready.ensures c.if-is_ready.true; heads = c.have_heads.ensures e; short = c.is_short.ensures c.if-is_short.true; named = c.if-h-ge65536.false }
-
-pub returns-else-is_short : goal.returns-else-is_short
-returns-else-is_short c = λ e. never (sym e)
-
-pub returns-else-is_ready : goal.returns-else-is_ready
-returns-else-is_ready c = λ e. never (sym e)

@@ -1,10 +1,6 @@
 -- Each way out is what its list refers to.
-use Rattle.cases.proofs.Never.{never}
 use Rattle.cases.proofs.Falling.{nil_falls, cons_falls}
 use Rattle.cases.proofs.ready.cell_rises.Goals as goal
-
-pub returns-then-a-t : goal.returns-then-a-t
-returns-then-a-t c = λ e. never e
 
 pub returns-in-Nil : goal.returns-in-Nil
 returns-in-Nil c = λ e. nil_falls _ _ c.in-Nil.is

@@ -1,10 +1,6 @@
 -- Each way out is what the type of its shape refers to.
-use Rattle.cases.proofs.Never.{never}
 use Rattle.cases.proofs.Falling.{var_falls, con_falls, arrow_falls}
 use Rattle.cases.proofs.ready.shape_rises.Goals as goal
-
-pub returns-then-a-t : goal.returns-then-a-t
-returns-then-a-t c = λ e. never e
 
 pub returns-in-Var : goal.returns-in-Var
 returns-in-Var c = λ e. var_falls _ _ _ c.in-Var.is

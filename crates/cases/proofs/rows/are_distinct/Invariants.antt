@@ -1,10 +1,7 @@
--- The loop's invariant: the names passed are new.
-use Prim.Native.Nat.{ℕ, ◌≤◌, ◌<◌, ◌-◌}
+-- The names passed are new.
+use Prim.Native.Nat.{ℕ, ◌<◌}
 use Rattle.cases.specs.Tested.{New}
 use Rattle.cases.proofs.rows.are_distinct.Given as goal
 
 abbrev pub invariant-loop-i : goal.invariant-loop-i
-invariant-loop-i l = (l.i ≤ l.n) × ((k : ℕ) → k < l.i → New l.names k)
-
-abbrev pub decreases-loop-i : goal.decreases-loop-i
-decreases-loop-i l = l.n - l.i
+invariant-loop-i l = (k : ℕ) → k < l.i → New l.names k

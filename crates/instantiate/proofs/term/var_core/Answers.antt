@@ -5,19 +5,19 @@ use Rattle.instantiate.proofs.Coring.{found_small, method_done, method_none, nam
 use Rattle.instantiate.proofs.term.var_core.Goals as goal
 
 pub overflow_add-d : goal.overflow_add-d
-overflow_add-d c = let z = found_small c.requires.ready_core c.lookup_method-k.ensures c.in-Of.is c.first_of-s.ensures c.in-At.is in omega arith
+overflow_add-d c = let z = found_small c.requires.ready_core c.lookup_method-k.ensures c.in-Some.is c.first_of.ensures c.in_ok-d-in-Some.was in omega arith
 
-pub returns-then-m-eq0 : goal.returns-then-m-eq0
-returns-then-m-eq0 c = name_done c.requires.ready_core c.lookup_method-k.ensures c.in-Nothing.is c.if-m-eq0.true
+pub returns-then-m-eq0-clause-gives : goal.returns-then-m-eq0-clause-gives
+returns-then-m-eq0-clause-gives c = name_done c.requires.ready_core c.lookup_method-k.ensures c.in-None.is c.if-m-eq0.true
 
 pub push_app-requires : goal.push_app-requires
-push_app-requires c = let cl = c.requires.base_len_bound in record { base_len_bound = omega arith; top_in_bounds = app_room c.requires.ready_core c.lookup_method-k.ensures c.in-Nothing.is c.if-m-eq0.false c.rows_list-l.ensures (long c.args.base.now c.rows_list-l.new.work c.args.work.now c.rows_list-l.auto.work) }
+push_app-requires c = let cl = c.requires.base_len_bound in let n = c.rows_list-l.ensures.top in record { base_len_bound = omega arith; top_in_bounds = rw c.rows_list-l.ensures.top (app_room c.requires.ready_core c.lookup_method-k.ensures c.in-None.is c.if-m-eq0.false c.rows_list-l.ensures.lists (long c.args.base.words.now c.rows_list-l.new.work c.args.work.now c.rows_list-l.auto.work)) }
 
-pub returns-in-At : goal.returns-in-At
-returns-in-At c = method_done c.requires.ready_core c.lookup_method-k.ensures c.in-Of.is c.first_of-s.ensures c.in-At.is c.push_method.ensures
+pub returns-in_ok-d-in-Some-clause-gives : goal.returns-in_ok-d-in-Some-clause-gives
+returns-in_ok-d-in-Some-clause-gives c = rw (c.push_method.ensures.word, c.push_method.ensures.top) (method_done c.requires.ready_core c.lookup_method-k.ensures c.in-Some.is c.first_of.ensures c.in_ok-d-in-Some.was c.push_method.ensures.is)
 
-pub returns-in-Nothing-s : goal.returns-in-Nothing-s
-returns-in-Nothing-s c = method_none c.requires.ready_core c.lookup_method-k.ensures c.in-Of.is c.first_of-s.ensures c.in-Nothing-s.is
+pub returns-in_err-d-in-Some-clause-gives : goal.returns-in_err-d-in-Some-clause-gives
+returns-in_err-d-in-Some-clause-gives c = rw c.from_residual.ensures (method_none c.requires.ready_core c.lookup_method-k.ensures c.in-Some.is c.first_of.ensures c.in_err-d-in-Some.was)
 
-pub returns-else-m-eq0 : goal.returns-else-m-eq0
-returns-else-m-eq0 c = app_done c.requires.ready_core c.lookup_method-k.ensures c.in-Nothing.is c.if-m-eq0.false c.rows_list-l.ensures (long c.args.base.now c.rows_list-l.new.work c.args.work.now c.rows_list-l.auto.work) c.push_app.ensures
+pub returns-else-m-eq0-clause-gives : goal.returns-else-m-eq0-clause-gives
+returns-else-m-eq0-clause-gives c = rw (c.push_app.ensures.word, c.push_app.ensures.top, c.rows_list-l.ensures.top) (app_done c.requires.ready_core c.lookup_method-k.ensures c.in-None.is c.if-m-eq0.false c.rows_list-l.ensures.lists (long c.args.base.words.now c.rows_list-l.new.work c.args.work.now c.rows_list-l.auto.work) (rw c.rows_list-l.ensures.top at c.push_app.ensures.is))

@@ -1,4 +1,4 @@
--- The loop's invariant: row i has come down to number k. The measure is how far it is from number a.
+-- The loop's invariant: row i has come down to number k.
 use native.Mathlib.Omega.{arith}
 use Rattle.pending.proofs.Puts.{rotating, rotated, rotate_on}
 use Rattle.pending.proofs.order.rotate.Goals as goal

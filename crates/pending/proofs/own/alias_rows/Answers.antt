@@ -1,4 +1,4 @@
--- The loop's invariant: the rows before row i are settled. The measure is how many are left.
+-- The loop's invariant: the rows before row i are settled.
 use native.Mathlib.Omega.{arith}
 use Rattle.pending.proofs.Aliases.{aliasing, aliased_all, aliased_ready, aliased_on}
 use Rattle.pending.proofs.own.alias_rows.Goals as goal

@@ -1,5 +1,4 @@
--- The loop's invariant: the rows before row i are settled. The measure is how many are left.
-use Prim.Native.Nat.{◌-◌}
+-- The loop's invariant: the rows before row i are settled.
 use mathlib.Core.List.{[], ◌++◌}
 use Rattle.meaning.specs.Subst.{ftv_type}
 use Rattle.meaning.specs.Generalize.{env_ftv}
@@ -9,7 +8,4 @@ use Rattle.pending.proofs.Aliases.{Aliasing}
 use Rattle.pending.proofs.own.alias_rows.Given as goal
 
 abbrev pub invariant-loop-i : goal.invariant-loop-i
-invariant-loop-i l = Aliasing (ftv_type (tree l.names (l.base ++ l.work) l.t) []) (env_ftv (env_of l.names (l.base ++ l.work) l.env l.order)) l.names (l.base ++ l.work) l.initial.binders l.binders l.top l.n l.i
-
-abbrev pub decreases-loop-i : goal.decreases-loop-i
-decreases-loop-i l = l.n - l.i
+invariant-loop-i l = Aliasing (ftv_type (tree l.base.names.now (l.base.words.now ++ l.work) l.t) []) (env_ftv (env_of l.base.names.now (l.base.words.now ++ l.work) l.env.rows.now l.env.order.now)) l.base.names.now (l.base.words.now ++ l.work) l.initial.binders l.binders l.top l.n l.i

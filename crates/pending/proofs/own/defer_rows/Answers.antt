@@ -1,4 +1,4 @@
--- The loop's invariant: of the rows before row i the deferred ones are in front. The measure is how many are left.
+-- The loop's invariant: of the rows before row i the deferred ones are in front.
 use native.Mathlib.Omega.{arith}
 use Rattle.pending.proofs.Defers.{deferring, deferred_all, deferred_ready, deferred_on}
 use Rattle.pending.proofs.own.defer_rows.Goals as goal

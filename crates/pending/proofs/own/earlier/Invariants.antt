@@ -1,5 +1,4 @@
--- The loop's invariant: no row before number j has the predicate. The measure is how many are left.
-use Prim.Native.Nat.{◌-◌}
+-- The loop's invariant: no row before number j has the predicate.
 use mathlib.Core.List.{◌++◌}
 use Rattle.meaning.specs.Ast.{pred}
 use Rattle.names.specs.Names.{name_of}
@@ -8,7 +7,4 @@ use Rattle.pending.proofs.Owns.{Seeking}
 use Rattle.pending.proofs.own.earlier.Given as goal
 
 abbrev pub invariant-loop-j : goal.invariant-loop-j
-invariant-loop-j l = Seeking l.names (l.base ++ l.work) l.binders l.i (pred (name_of l.names l.c) (tree l.names (l.base ++ l.work) l.u)) l.j
-
-abbrev pub decreases-loop-j : goal.decreases-loop-j
-decreases-loop-j l = l.i - l.j
+invariant-loop-j l = Seeking l.base.names.now (l.base.words.now ++ l.work) l.binders l.i (pred (name_of l.base.names.now l.c) (tree l.base.names.now (l.base.words.now ++ l.work) l.u)) l.j

@@ -17,10 +17,10 @@ pub is_own-own-requires : goal.is_own-own-requires
 is_own-own-requires c = record { names = c.requires.names; scope = c.requires.scope; node = c.requires.type; node_2 = settle_type c.args.i [] [] c.requires c.row_at-q.ensures c.in-Pending.is }
 
 pub overflow_add-x : goal.overflow_add-x
-overflow_add-x c = let x = settle_small c.args.i [] [] c.requires c.row_at-q.ensures c.in-Pending.is c.earlier-f.ensures c.in-At.is c.is_own-own.ensures c.pick-x.ensures in omega arith
+overflow_add-x c = let x = settle_small c.args.i [] [] c.requires c.row_at-q.ensures c.in-Pending.is c.earlier-f.ensures c.in-Some.is c.is_own-own.ensures c.pick-x.ensures in omega arith
 
 pub put_row-requires : goal.put_row-requires
 put_row-requires c = let x = c.requires.binders.rows.fits in omega arith
 
 pub returns : goal.returns
-returns c = settle_twin _ _ _ c.requires c.row_at-q.ensures c.in-Pending.is c.earlier-f.ensures c.in-At.is c.is_own-own.ensures c.pick-x.ensures c.put_row.ensures
+returns c = settle_twin _ _ _ c.requires c.row_at-q.ensures c.in-Pending.is c.earlier-f.ensures c.in-Some.is c.is_own-own.ensures c.pick-x.ensures c.put_row.ensures

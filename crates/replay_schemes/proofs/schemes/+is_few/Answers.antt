@@ -1,19 +1,11 @@
 -- The measure is how many more there may be.
-use mathlib.Core.Path.{sym}
 use native.Mathlib.Omega.{arith}
 use Rattle.ast.proofs.Laws.{cons_tail, node_room}
-use Rattle.cases.proofs.Never.{never}
 use Rattle.replay_schemes.proofs.Ways.{few_nil, few_cons}
 use Rattle.replay_schemes.proofs.schemes.+is_few.Goals as goal
 
 pub cell_at-c-requires : goal.cell_at-c-requires
 cell_at-c-requires t c = node_room c.requires
-
-pub returns-then-most-eq0 : goal.returns-then-most-eq0
-returns-then-most-eq0 t c = λ e. never (sym e)
-
-pub returns-then-a-ge-NULLARY : goal.returns-then-a-ge-NULLARY
-returns-then-a-ge-NULLARY t c = λ e. never (sym e)
 
 pub is_few-requires : goal.is_few-requires
 is_few-requires t c = (omega arith, (cons_tail c.requires c.cell_at-c.ensures c.in-Cons.is).1)

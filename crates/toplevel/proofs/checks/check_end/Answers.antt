@@ -1,12 +1,14 @@
 -- `finalize` is all.
+use Rattle.errors.proofs.Thrown.{thrown}
+use Rattle.toplevel.proofs.Seen.{final_is, final_refused}
 use Rattle.toplevel.proofs.Lasts.{last_asks, last_lost, last_gives}
 use Rattle.toplevel.proofs.checks.check_end.Goals as goal
 
-pub finalize-f-requires : goal.finalize-f-requires
-finalize-f-requires c = record { base_len_bound = c.requires.base_len_bound; ready_generalize = last_asks c.requires.ready_rest c.args.classes.now }
+pub finalize-requires : goal.finalize-requires
+finalize-requires c = record { base_len_bound = c.requires.base_len_bound; ready_generalize = last_asks c.requires.ready_rest c.args.rules.classes.now }
 
-pub returns-in-Done : goal.returns-in-Done
-returns-in-Done c = last_gives c.requires.ready_rest c.args.classes.now c.finalize-f.ensures c.in-Done.is
+pub returns : goal.returns
+returns c = last_gives c.requires.ready_rest c.args.rules.classes.now c.finalize.ensures (final_is c.in_ok-f.was)
 
-pub returns-in-Refused : goal.returns-in-Refused
-returns-in-Refused c = last_lost c.requires.ready_rest c.args.classes.now c.finalize-f.ensures c.in-Refused.is
+pub returns-in_err-f : goal.returns-in_err-f
+returns-in_err-f c = rw (thrown _ c.from_residual.ensures.1) (last_lost c.requires.ready_rest c.args.rules.classes.now c.finalize.ensures (final_refused c.in_err-f.was))

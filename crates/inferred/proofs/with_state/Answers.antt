@@ -1,9 +1,0 @@
--- The same answer with rows and counters.
-use mathlib.Core.Path.{refl}
-use Rattle.inferred.proofs.with_state.Goals as goal
-
-pub returns-in-Done : goal.returns-in-Done
-returns-in-Done c = rw c.in-Done.is refl
-
-pub returns-in-Refused : goal.returns-in-Refused
-returns-in-Refused c = rw c.in-Refused.is refl

@@ -1,9 +1,0 @@
--- The loop counts its turns down, and keeps the lengths of what is lent.
-use Rattle.std.proofs.Common.{length, ◌≡◌}
-use Rattle.replay_pairs.proofs.cases.Given as goal
-
-abbrev pub invariant-loop-turns : goal.invariant-loop-turns
-invariant-loop-turns g l = (length l.work ≡ length l.initial.work) × (length l.ids ≡ length l.initial.ids)
-
-abbrev pub decreases-loop-turns : goal.decreases-loop-turns
-decreases-loop-turns g l = l.turns
