@@ -1,4 +1,5 @@
 // A session file after its names: types, expressions, declarations, and no byte after them.
+// (The length of the index stays a clause: an array would ask more of callers than a slice.)
 #![tactic(auto)]
 
 ghost use Rattle.std.specs.Prelude.{◌≡◌, ℕ, ◌≤◌, length};

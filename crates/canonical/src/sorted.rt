@@ -147,6 +147,7 @@ pub fn sorted_vars(
 {
     let mut l = ast::NIL;
     let mut last = None;
+    // No `for`: which variable comes next is known only from the one before.
     while let Some(x) = last_before(base, work, env, room.top, last, ps, t) {
         l = ast::add(base, work, room, ast::CONS, x, l);
         last = Some(x);

@@ -19,7 +19,7 @@ use errors::{DEPTH, Refusal};
 use scope::{Entry, Env, Fresh};
 use subst::Scheme;
 
-// An instance of a scheme: its type, and how many rows its predicates have.
+// An instance of a scheme: its type, how many rows its predicates have, and both counters after it.
 #[derive(Clone, Copy)]
 pub struct Opened {
     pub ty: usize,
@@ -27,7 +27,7 @@ pub struct Opened {
     pub fresh: Fresh,
 }
 
-// What a name comes to: the type and the term of its instance, and how many rows its predicates have.
+// What a name comes to: the type and the term of its instance, how many rows its predicates have, and both counters.
 #[derive(Clone, Copy)]
 pub struct Used {
     pub ty: usize,

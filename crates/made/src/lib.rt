@@ -1,3 +1,12 @@
-// What the inference of an instance's method or of a class's default gives: the word of a core term, or a refusal. There is no
-// code here yet: specs/ says what it will promise.
+// What the inference of an instance's method or of a class's default gives. There is no function here yet: specs/ says what one
+// will promise.
 #![tactic(auto)]
+
+use scope::Fresh;
+
+// A core term's word, and the next variable's and the next dictionary's number.
+#[derive(Clone, Copy)]
+pub struct Term {
+    pub word: usize,
+    pub fresh: Fresh,
+}

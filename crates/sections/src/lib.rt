@@ -1,4 +1,5 @@
 // The sections of a session file after its names: each item is read, and its place written into the index.
+// (The length of the index stays a clause: an array would ask more of callers than a slice.)
 #![tactic(auto)]
 
 ghost use Rattle.std.specs.Prelude.{◌≡◌, ℕ, ◌+◌, ◌<◌, ◌≤◌, length};

@@ -1,4 +1,4 @@
--- The loop's invariant: none of the rows so far is of the class. The measure is how many are left.
+-- The loop's invariant: none of the rows so far is of the class.
 use native.Mathlib.Omega.{arith}
 use Rattle.instantiate.proofs.Finding.{none_yet, none_more, first_found, first_none}
 use Rattle.instantiate.proofs.term.first_of.Goals as goal
