@@ -28,7 +28,7 @@ pub enum Part {
     Rec(usize, usize, usize),
 }
 
-// The tags of the nodes that inference and resolution make.
+// The tags of the nodes that inference and resolution make. No heap: a tag is a word of the lent buffer.
 const ABS: u64 = 4;
 
 const CALL: u64 = 5;

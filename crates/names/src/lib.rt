@@ -1,4 +1,4 @@
-// Words that stand for type variables, and the byte order of names.
+// Words that stand for type variables, and the byte order of names. No heap: a name is four words of a lent slice.
 #![tactic(auto)]
 
 ghost use Rattle.std.specs.Prelude.{◌≡◌, List, ℕ, ◌+◌, ◌*◌, ◌%◌, ◌^◌, ◌<◌};

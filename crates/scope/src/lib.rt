@@ -1,4 +1,5 @@
 // The environment of 000 as rows of a lent slice, a row for each name; a second slice has the names in byte order.
+// No heap: a row is four words of that slice, its state the first of them.
 #![tactic(auto)]
 
 ghost use Rattle.std.specs.Prelude.{◌≡◌, [], ◌++◌, ◌+◌, ◌*◌, ◌≤◌, length};

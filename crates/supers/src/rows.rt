@@ -1,4 +1,4 @@
-// Binders as rows of a lent slice, of which some were replaced.
+// Binders as rows of a lent slice, of which some were replaced. No heap: a row is three words of that slice.
 ghost use Rattle.std.specs.Prelude.{◌≡◌, Ok, None, ◌++◌, ◌+◌, ◌*◌, ◌≤◌, length};
 ghost use Rattle.meaning.specs.Ast.{pred};
 ghost use Rattle.meaning.specs.Reduce.{find_super_proof};

@@ -2,7 +2,7 @@
 use mathlib.Core.Path.{◌≡◌, sym}
 use Prim.Native.Nat.{◌+◌, ◌-◌}
 use native.Mathlib.Omega.{arith}
-use lib.ListN.{length, length-set}
+use lib.ListN.{length}
 use Rattle.classes.proofs.Copying.{copied, put_full, put_done}
 use Rattle.classes.proofs.put_class.Goals as goal
 
@@ -14,9 +14,6 @@ returns-then-used-n c = put_full (omega arith)
 
 pub returns-then-k-n : goal.returns-then-k-n
 returns-then-k-n c = put_full (omega arith)
-
-pub bounds-classes-c-2 : goal.bounds-classes-c-2
-bounds-classes-c-2 c = let l = c.copy_from_slice.ensures.len in simp length-set (omega arith)
 
 pub returns : goal.returns
 returns c = let z : c.args.used + length c.args.supers.now - c.args.used ≡ length c.args.supers.now = omega arith in rw c.copy_from_slice.ensures.after (put_done c.args.c (copied c.args.classes.now c.args.supers.now c.args.used _ (sym z) (omega arith)) (omega arith) (omega arith))

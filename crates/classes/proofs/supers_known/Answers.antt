@@ -1,9 +1,6 @@
 -- The loop's invariant: the superclasses passed so far are declared.
-use Rattle.classes.proofs.Knowing.{sure_none, sure_next, knows_all, knows_missing}
+use Rattle.classes.proofs.Knowing.{sure_next, knows_all, knows_missing}
 use Rattle.classes.proofs.supers_known.Goals as goal
-
-pub loop-i-init : goal.loop-i-init
-loop-i-init c = sure_none _ _
 
 pub returns-then-not-known : goal.returns-then-not-known
 returns-then-not-known c = knows_missing c.loop-i.invariant c.loop-i-test.true c.is_declared-known.ensures (mathlib.Core.Path.ap mathlib.Core.Bool.not c.if-not-known.true)
