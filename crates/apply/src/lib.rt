@@ -14,11 +14,11 @@ use errors::Refusal;
 use pairs::Subst;
 
 // What the pairs have for the variable of word x, unless it is one of the list vs.
-fn find_but(base: Base, work: &[u64], top: usize, sub: Subst, vs: usize, x: usize) -> Option<usize>
-    requires names { Names base.names.now }
-    requires node { Node (base.words.now ++ work.now) top vs }
-    requires k_in_bounds { sub.at + 2 * sub.k ≤ length (base.words.now ++ work.now) }
-    ensures { result ≡ find_but base.entry.names.now (base.entry.words.now ++ work.now) vs sub.at sub.k x }
+fn find_but(base: &Base, work: &[u64], top: usize, sub: Subst, vs: usize, x: usize) -> Option<usize>
+    requires names { Names base.now.names.now }
+    requires node { Node (base.now.words.now ++ work.now) top vs }
+    requires k_in_bounds { sub.at + 2 * sub.k ≤ length (base.now.words.now ++ work.now) }
+    ensures { result ≡ find_but base.now.names.now (base.now.words.now ++ work.now) vs sub.at sub.k x }
 {
     if vars::has_var(base, work, top, vs, x) {
         return None;
@@ -30,7 +30,7 @@ fn find_but(base: Base, work: &[u64], top: usize, sub: Subst, vs: usize, x: usiz
 // without them, with so much depth left. No step would pay for a copy of it.
 #[cycle(apply_but_args_but)]
 pub fn apply_but(
-    base: Base,
+    base: &Base,
     work: &mut [u64],
     room: &mut Room,
     depth: usize,
@@ -38,11 +38,11 @@ pub fn apply_but(
     vs: usize,
     t: usize,
 ) -> Result<usize, Refusal>
-    requires base_len_bound { length base.words.now ≤ 4 * room.old.top }
-    requires ready_but { ReadyBut base.names.now (base.words.now ++ work.old) room.old.top room.old.left sub.at sub.k vs t }
-    ensures { Gives (tree base.entry.names.now (base.entry.words.now ++ work.new)) (4 * room.old.top + 8 * room.old.left - 4) base.entry.names.now
-        (base.entry.words.now ++ work.old) (base.entry.words.now ++ work.new) room.old.top room.old.left
-        (apply_in depth (sub_but base.entry.names.now (base.entry.words.now ++ work.old) vs sub.at sub.k) (tree base.entry.names.now (base.entry.words.now ++ work.old) t) room.old.left) (applied_of result room.new.top room.new.left) }
+    requires base_len_bound { length base.now.words.now ≤ 4 * room.old.top }
+    requires ready_but { ReadyBut base.now.names.now (base.now.words.now ++ work.old) room.old.top room.old.left sub.at sub.k vs t }
+    ensures { Gives (tree base.now.names.now (base.now.words.now ++ work.new)) (4 * room.old.top + 8 * room.old.left - 4) base.now.names.now
+        (base.now.words.now ++ work.old) (base.now.words.now ++ work.new) room.old.top room.old.left
+        (apply_in depth (sub_but base.now.names.now (base.now.words.now ++ work.old) vs sub.at sub.k) (tree base.now.names.now (base.now.words.now ++ work.old) t) room.old.left) (applied_of result room.new.top room.new.left) }
 {
     if depth == 0 {
         return Err(Refusal::Depth);
@@ -76,7 +76,7 @@ pub fn apply_but(
 // The pairs applied to each type of the list n, left to right; the variables of the list vs stay.
 #[cycle(apply_but_args_but)]
 fn args_but(
-    base: Base,
+    base: &Base,
     work: &mut [u64],
     room: &mut Room,
     depth: usize,
@@ -84,11 +84,11 @@ fn args_but(
     vs: usize,
     n: usize,
 ) -> Result<usize, Refusal>
-    requires base_len_bound { length base.words.now ≤ 4 * room.old.top }
-    requires ready_but { ReadyBut base.names.now (base.words.now ++ work.old) room.old.top room.old.left sub.at sub.k vs n }
-    ensures { Gives (list base.entry.names.now (base.entry.words.now ++ work.new)) (4 * room.old.top + 8 * room.old.left) base.entry.names.now
-        (base.entry.words.now ++ work.old) (base.entry.words.now ++ work.new) room.old.top room.old.left
-        (each (apply_in depth (sub_but base.entry.names.now (base.entry.words.now ++ work.old) vs sub.at sub.k)) (list base.entry.names.now (base.entry.words.now ++ work.old) n) room.old.left) (applied_of result room.new.top room.new.left) }
+    requires base_len_bound { length base.now.words.now ≤ 4 * room.old.top }
+    requires ready_but { ReadyBut base.now.names.now (base.now.words.now ++ work.old) room.old.top room.old.left sub.at sub.k vs n }
+    ensures { Gives (list base.now.names.now (base.now.words.now ++ work.new)) (4 * room.old.top + 8 * room.old.left) base.now.names.now
+        (base.now.words.now ++ work.old) (base.now.words.now ++ work.new) room.old.top room.old.left
+        (each (apply_in depth (sub_but base.now.names.now (base.now.words.now ++ work.old) vs sub.at sub.k)) (list base.now.names.now (base.now.words.now ++ work.old) n) room.old.left) (applied_of result room.new.top room.new.left) }
 {
     let c = ast::cell_at(base, work, n);
     match c {
@@ -103,18 +103,18 @@ fn args_but(
 
 // The pairs applied to the type t: `apply_type` with so much depth left.
 pub fn apply(
-    base: Base,
+    base: &Base,
     work: &mut [u64],
     room: &mut Room,
     depth: usize,
     sub: Subst,
     t: usize,
 ) -> Result<usize, Refusal>
-    requires base_len_bound { length base.words.now ≤ 4 * room.old.top }
-    requires ready { Ready base.names.now (base.words.now ++ work.old) room.old.top room.old.left sub.at sub.k t }
-    ensures { Gives (tree base.entry.names.now (base.entry.words.now ++ work.new)) (4 * room.old.top + 8 * room.old.left - 4) base.entry.names.now
-        (base.entry.words.now ++ work.old) (base.entry.words.now ++ work.new) room.old.top room.old.left
-        (apply_in depth (sub_at base.entry.names.now (base.entry.words.now ++ work.old) sub.at sub.k) (tree base.entry.names.now (base.entry.words.now ++ work.old) t) room.old.left) (applied_of result room.new.top room.new.left) }
+    requires base_len_bound { length base.now.words.now ≤ 4 * room.old.top }
+    requires ready { Ready base.now.names.now (base.now.words.now ++ work.old) room.old.top room.old.left sub.at sub.k t }
+    ensures { Gives (tree base.now.names.now (base.now.words.now ++ work.new)) (4 * room.old.top + 8 * room.old.left - 4) base.now.names.now
+        (base.now.words.now ++ work.old) (base.now.words.now ++ work.new) room.old.top room.old.left
+        (apply_in depth (sub_at base.now.names.now (base.now.words.now ++ work.old) sub.at sub.k) (tree base.now.names.now (base.now.words.now ++ work.old) t) room.old.left) (applied_of result room.new.top room.new.left) }
 {
     apply_but(base, work, room, depth, sub, ast::NIL, t)
 }

@@ -84,9 +84,9 @@ pub struct Room {
 }
 
 // A word of the two tables.
-pub fn get(base: Base, work: &[u64], i: usize) -> u64
-    requires { i < length (base.words.now ++ work.now) }
-    ensures { result ≡ get_or (base.entry.words.now ++ work.now) i 0 }
+pub fn get(base: &Base, work: &[u64], i: usize) -> u64
+    requires { i < length (base.now.words.now ++ work.now) }
+    ensures { result ≡ get_or (base.now.words.now ++ work.now) i 0 }
 {
     let n = base.words.len();
     if i < n {
@@ -97,18 +97,18 @@ pub fn get(base: Base, work: &[u64], i: usize) -> u64
 }
 
 // A word of the two tables, as a type's word or an index.
-pub fn index(base: Base, work: &[u64], i: usize) -> usize
-    requires { i < length (base.words.now ++ work.now) }
-    ensures { result ≡ get_or (base.entry.words.now ++ work.now) i 0 }
+pub fn index(base: &Base, work: &[u64], i: usize) -> usize
+    requires { i < length (base.now.words.now ++ work.now) }
+    ensures { result ≡ get_or (base.now.words.now ++ work.now) i 0 }
 {
     get(base, work, i) as usize
 }
 
 // The shape that node n says, whose word is t.
-fn node_shape(base: Base, work: &[u64], t: usize, n: usize) -> Shape
-    requires { 4 * n + 4 ≤ length (base.words.now ++ work.now) }
-    ensures { result ≡ shape t (get_or (base.entry.words.now ++ work.now) (4 * n) 0) (get_or (base.entry.words.now ++ work.now) (4 * n + 1) 0)
-        (get_or (base.entry.words.now ++ work.now) (4 * n + 2) 0) }
+fn node_shape(base: &Base, work: &[u64], t: usize, n: usize) -> Shape
+    requires { 4 * n + 4 ≤ length (base.now.words.now ++ work.now) }
+    ensures { result ≡ shape t (get_or (base.now.words.now ++ work.now) (4 * n) 0) (get_or (base.now.words.now ++ work.now) (4 * n + 1) 0)
+        (get_or (base.now.words.now ++ work.now) (4 * n + 2) 0) }
 {
     let i = 4 * n;
     let tag = get(base, work, i);
@@ -122,9 +122,9 @@ fn node_shape(base: Base, work: &[u64], t: usize, n: usize) -> Shape
 }
 
 // The shape of the type t.
-pub fn shape_at(base: Base, work: &[u64], t: usize) -> Shape
-    requires { 4 * t + 4 ≤ 4 * first_node + length (base.words.now ++ work.now) }
-    ensures { result ≡ shape_of (base.entry.words.now ++ work.now) t }
+pub fn shape_at(base: &Base, work: &[u64], t: usize) -> Shape
+    requires { 4 * t + 4 ≤ 4 * first_node + length (base.now.words.now ++ work.now) }
+    ensures { result ≡ shape_of (base.now.words.now ++ work.now) t }
 {
     let k = names::kind_of(t);
     match k {
@@ -136,10 +136,10 @@ pub fn shape_at(base: Base, work: &[u64], t: usize) -> Shape
 }
 
 // The list that node n says.
-fn node_cell(base: Base, work: &[u64], n: usize) -> Cell
-    requires { 4 * n + 4 ≤ length (base.words.now ++ work.now) }
-    ensures { result ≡ cell (get_or (base.entry.words.now ++ work.now) (4 * n) 0) (get_or (base.entry.words.now ++ work.now) (4 * n + 1) 0)
-        (get_or (base.entry.words.now ++ work.now) (4 * n + 2) 0) }
+fn node_cell(base: &Base, work: &[u64], n: usize) -> Cell
+    requires { 4 * n + 4 ≤ length (base.now.words.now ++ work.now) }
+    ensures { result ≡ cell (get_or (base.now.words.now ++ work.now) (4 * n) 0) (get_or (base.now.words.now ++ work.now) (4 * n + 1) 0)
+        (get_or (base.now.words.now ++ work.now) (4 * n + 2) 0) }
 {
     let i = 4 * n;
     let tag = get(base, work, i);
@@ -150,9 +150,9 @@ fn node_cell(base: Base, work: &[u64], n: usize) -> Cell
 }
 
 // What the list l is.
-pub fn cell_at(base: Base, work: &[u64], l: usize) -> Cell
-    requires { 4 * l + 4 ≤ 4 * first_node + length (base.words.now ++ work.now) }
-    ensures { result ≡ cell_of (base.entry.words.now ++ work.now) l }
+pub fn cell_at(base: &Base, work: &[u64], l: usize) -> Cell
+    requires { 4 * l + 4 ≤ 4 * first_node + length (base.now.words.now ++ work.now) }
+    ensures { result ≡ cell_of (base.now.words.now ++ work.now) l }
 {
     let k = names::kind_of(l);
     match k {
@@ -164,10 +164,10 @@ pub fn cell_at(base: Base, work: &[u64], l: usize) -> Cell
 }
 
 // Writes the node top: a tag and two words.
-pub fn push(base: Base, work: &mut [u64], top: usize, tag: u64, a: usize, b: usize)
-    requires base_len_bound { length base.words.now ≤ 4 * top }
-    requires top_in_bounds { 4 * top + 4 ≤ length (base.words.now ++ work.old) }
-    ensures { base.entry.words.now ++ work.new ≡ pushed (base.entry.words.now ++ work.old) top tag a b }
+pub fn push(base: &Base, work: &mut [u64], top: usize, tag: u64, a: usize, b: usize)
+    requires base_len_bound { length base.now.words.now ≤ 4 * top }
+    requires top_in_bounds { 4 * top + 4 ≤ length (base.now.words.now ++ work.old) }
+    ensures { base.now.words.now ++ work.new ≡ pushed (base.now.words.now ++ work.old) top tag a b }
 {
     let i = 4 * top - base.words.len();
     work[i] = tag;
@@ -176,10 +176,10 @@ pub fn push(base: Base, work: &mut [u64], top: usize, tag: u64, a: usize, b: usi
 }
 
 // Writes the next node, and answers its word.
-pub fn add(base: Base, work: &mut [u64], room: &mut Room, tag: u64, a: usize, b: usize) -> usize
-    requires base_len_bound { length base.words.now ≤ 4 * room.old.top }
-    requires top_in_bounds { 4 * room.old.top + 4 ≤ length (base.words.now ++ work.old) }
-    ensures is { base.entry.words.now ++ work.new ≡ pushed (base.entry.words.now ++ work.old) room.old.top tag a b }
+pub fn add(base: &Base, work: &mut [u64], room: &mut Room, tag: u64, a: usize, b: usize) -> usize
+    requires base_len_bound { length base.now.words.now ≤ 4 * room.old.top }
+    requires top_in_bounds { 4 * room.old.top + 4 ≤ length (base.now.words.now ++ work.old) }
+    ensures is { base.now.words.now ++ work.new ≡ pushed (base.now.words.now ++ work.old) room.old.top tag a b }
     ensures word { result ≡ first_node + room.old.top }
     ensures top { room.new.top ≡ room.old.top + 1 }
     ensures left { room.new.left ≡ room.old.left }
@@ -191,9 +191,9 @@ pub fn add(base: Base, work: &mut [u64], room: &mut Room, tag: u64, a: usize, b:
 }
 
 // How many types the list l has.
-pub fn count_list(base: Base, work: &[u64], top: usize, l: usize) -> usize
-    requires { Node (base.words.now ++ work.now) top l }
-    ensures { (ns : List ℕ) → Counted ns (base.entry.words.now ++ work.now) l result }
+pub fn count_list(base: &Base, work: &[u64], top: usize, l: usize) -> usize
+    requires { Node (base.now.words.now ++ work.now) top l }
+    ensures { (ns : List ℕ) → Counted ns (base.now.words.now ++ work.now) l result }
 {
     let c = cell_at(base, work, l);
     match c {
@@ -204,10 +204,10 @@ pub fn count_list(base: Base, work: &[u64], top: usize, l: usize) -> usize
 
 // Whether the variable of word v stands in the type t. A shared node is walked once for each place where it stands.
 #[cycle(occurs_in_occurs_list)]
-pub fn occurs_in(base: Base, work: &[u64], top: usize, v: usize, t: usize) -> bool
-    requires names { Names base.names.now }
-    requires node { Node (base.words.now ++ work.now) top t }
-    ensures { result ≡ occurs (tyvar_of base.entry.names.now v) (tree base.entry.names.now (base.entry.words.now ++ work.now) t) }
+pub fn occurs_in(base: &Base, work: &[u64], top: usize, v: usize, t: usize) -> bool
+    requires names { Names base.now.names.now }
+    requires node { Node (base.now.words.now ++ work.now) top t }
+    ensures { result ≡ occurs (tyvar_of base.now.names.now v) (tree base.now.names.now (base.now.words.now ++ work.now) t) }
 {
     let s = shape_at(base, work, t);
     match s {
@@ -224,10 +224,10 @@ pub fn occurs_in(base: Base, work: &[u64], top: usize, v: usize, t: usize) -> bo
 
 // Whether the variable of word v stands in a type of the list l.
 #[cycle(occurs_in_occurs_list)]
-fn occurs_list(base: Base, work: &[u64], top: usize, v: usize, l: usize) -> bool
-    requires names { Names base.names.now }
-    requires node { Node (base.words.now ++ work.now) top l }
-    ensures { result ≡ occurs_in (tyvar_of base.entry.names.now v) (list base.entry.names.now (base.entry.words.now ++ work.now) l) }
+fn occurs_list(base: &Base, work: &[u64], top: usize, v: usize, l: usize) -> bool
+    requires names { Names base.now.names.now }
+    requires node { Node (base.now.words.now ++ work.now) top l }
+    ensures { result ≡ occurs_in (tyvar_of base.now.names.now v) (list base.now.names.now (base.now.words.now ++ work.now) l) }
 {
     let s = cell_at(base, work, l);
     match s {
@@ -243,11 +243,11 @@ fn occurs_list(base: Base, work: &[u64], top: usize, v: usize, l: usize) -> bool
 
 // Whether the words s and t are the same type, as trees. Equal words are, with no walk.
 #[cycle(same_same_list)]
-pub fn same(base: Base, work: &[u64], top: usize, s: usize, t: usize) -> bool
-    requires names { Names base.names.now }
-    requires node { Node (base.words.now ++ work.now) top s }
-    requires node_2 { Node (base.words.now ++ work.now) top t }
-    ensures { result ≡ is_yes (same_ty (tree base.entry.names.now (base.entry.words.now ++ work.now) s) (tree base.entry.names.now (base.entry.words.now ++ work.now) t)) }
+pub fn same(base: &Base, work: &[u64], top: usize, s: usize, t: usize) -> bool
+    requires names { Names base.now.names.now }
+    requires node { Node (base.now.words.now ++ work.now) top s }
+    requires node_2 { Node (base.now.words.now ++ work.now) top t }
+    ensures { result ≡ is_yes (same_ty (tree base.now.names.now (base.now.words.now ++ work.now) s) (tree base.now.names.now (base.now.words.now ++ work.now) t)) }
 {
     if s == t {
         return true;
@@ -285,11 +285,11 @@ pub fn same(base: Base, work: &[u64], top: usize, s: usize, t: usize) -> bool
 
 // Whether two lists are the same types.
 #[cycle(same_same_list)]
-fn same_list(base: Base, work: &[u64], top: usize, k: usize, l: usize) -> bool
-    requires names { Names base.names.now }
-    requires node { Node (base.words.now ++ work.now) top k }
-    requires node_2 { Node (base.words.now ++ work.now) top l }
-    ensures { SameTys (list base.entry.names.now (base.entry.words.now ++ work.now) k) (list base.entry.names.now (base.entry.words.now ++ work.now) l) result }
+fn same_list(base: &Base, work: &[u64], top: usize, k: usize, l: usize) -> bool
+    requires names { Names base.now.names.now }
+    requires node { Node (base.now.words.now ++ work.now) top k }
+    requires node_2 { Node (base.now.words.now ++ work.now) top l }
+    ensures { SameTys (list base.now.names.now (base.now.words.now ++ work.now) k) (list base.now.names.now (base.now.words.now ++ work.now) l) result }
 {
     if k == l {
         return true;

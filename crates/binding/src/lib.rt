@@ -20,7 +20,7 @@ use scope::{Env, Fresh};
 // The pairs of what is bound applied to its rows, and then its type, these rows and its term generalized: the environment was
 // applied to before.
 fn rest(
-    base: Base,
+    base: &Base,
     work: &mut [u64],
     room: &mut Room,
     rules: Rules,
@@ -30,9 +30,9 @@ fn rest(
     fresh: Fresh,
     bound: Typed,
 ) -> Result<General, Refusal>
-    requires base_len_bound { length base.words.now ≤ 4 * room.old.top }
-    requires ready_mid { ReadyMid base.names.now (base.words.now ++ work.old) env.rows.now env.order.now rules.insts.now binders.old room.old.top room.old.left sp fresh.tv fresh.dv bound.ty bound.term bound.pairs bound.rows }
-    ensures { GivesG (AskedGeneral base.entry.names.now rules.entry.classes.now (base.entry.words.now ++ work.old) rules.entry.insts.now room.old.top (answer_of base.entry.names.now (base.entry.words.now ++ work.old) binders.old sp bound.ty bound.term bound.pairs bound.rows) (state_of base.entry.names.now (base.entry.words.now ++ work.old) env.entry.rows.now env.entry.order.now fresh.tv fresh.dv)) (λ ce. general_rest ce (answer_of base.entry.names.now (base.entry.words.now ++ work.old) binders.old sp bound.ty bound.term bound.pairs bound.rows) (state_of base.entry.names.now (base.entry.words.now ++ work.old) env.entry.rows.now env.entry.order.now fresh.tv fresh.dv) room.old.left) base.entry.names.now (base.entry.words.now ++ work.old) (base.entry.words.now ++ work.new)
+    requires base_len_bound { length base.now.words.now ≤ 4 * room.old.top }
+    requires ready_mid { ReadyMid base.now.names.now (base.now.words.now ++ work.old) env.rows.now env.order.now rules.insts.now binders.old room.old.top room.old.left sp fresh.tv fresh.dv bound.ty bound.term bound.pairs bound.rows }
+    ensures { GivesG (AskedGeneral base.now.names.now rules.entry.classes.now (base.now.words.now ++ work.old) rules.entry.insts.now room.old.top (answer_of base.now.names.now (base.now.words.now ++ work.old) binders.old sp bound.ty bound.term bound.pairs bound.rows) (state_of base.now.names.now (base.now.words.now ++ work.old) env.entry.rows.now env.entry.order.now fresh.tv fresh.dv)) (λ ce. general_rest ce (answer_of base.now.names.now (base.now.words.now ++ work.old) binders.old sp bound.ty bound.term bound.pairs bound.rows) (state_of base.now.names.now (base.now.words.now ++ work.old) env.entry.rows.now env.entry.order.now fresh.tv fresh.dv) room.old.left) base.now.names.now (base.now.words.now ++ work.old) (base.now.words.now ++ work.new)
         env.entry.rows.now env.entry.order.now binders.old binders.new room.old.top room.old.left sp bound.pairs bound.rows fresh.tv fresh.dv (generalized_of result room.new.top room.new.left) }
 {
     let k = bound.pairs;
@@ -45,7 +45,7 @@ fn rest(
 
 // What a let binds, generalized: its pairs end at sp.
 pub fn general(
-    base: Base,
+    base: &Base,
     work: &mut [u64],
     room: &mut Room,
     rules: Rules,
@@ -56,9 +56,9 @@ pub fn general(
     fresh: Fresh,
     bound: Typed,
 ) -> Result<General, Refusal>
-    requires base_len_bound { length base.words.now ≤ 4 * room.old.top }
-    requires ready_mid { ReadyMid base.names.now (base.words.now ++ work.old) env.old order.now rules.insts.now binders.old room.old.top room.old.left sp fresh.tv fresh.dv bound.ty bound.term bound.pairs bound.rows }
-    ensures { GivesG (AskedGeneral base.entry.names.now rules.entry.classes.now (base.entry.words.now ++ work.old) rules.entry.insts.now room.old.top (answer_of base.entry.names.now (base.entry.words.now ++ work.old) binders.old sp bound.ty bound.term bound.pairs bound.rows) (state_of base.entry.names.now (base.entry.words.now ++ work.old) env.old order.now fresh.tv fresh.dv)) (λ ce. let_general ce (answer_of base.entry.names.now (base.entry.words.now ++ work.old) binders.old sp bound.ty bound.term bound.pairs bound.rows) (state_of base.entry.names.now (base.entry.words.now ++ work.old) env.old order.now fresh.tv fresh.dv) room.old.left) base.entry.names.now (base.entry.words.now ++ work.old) (base.entry.words.now ++ work.new)
+    requires base_len_bound { length base.now.words.now ≤ 4 * room.old.top }
+    requires ready_mid { ReadyMid base.now.names.now (base.now.words.now ++ work.old) env.old order.now rules.insts.now binders.old room.old.top room.old.left sp fresh.tv fresh.dv bound.ty bound.term bound.pairs bound.rows }
+    ensures { GivesG (AskedGeneral base.now.names.now rules.entry.classes.now (base.now.words.now ++ work.old) rules.entry.insts.now room.old.top (answer_of base.now.names.now (base.now.words.now ++ work.old) binders.old sp bound.ty bound.term bound.pairs bound.rows) (state_of base.now.names.now (base.now.words.now ++ work.old) env.old order.now fresh.tv fresh.dv)) (λ ce. let_general ce (answer_of base.now.names.now (base.now.words.now ++ work.old) binders.old sp bound.ty bound.term bound.pairs bound.rows) (state_of base.now.names.now (base.now.words.now ++ work.old) env.old order.now fresh.tv fresh.dv) room.old.left) base.now.names.now (base.now.words.now ++ work.old) (base.now.words.now ++ work.new)
         env.new order.now binders.old binders.new room.old.top room.old.left sp bound.pairs bound.rows fresh.tv fresh.dv (generalized_of result room.new.top room.new.left) }
 {
     let k = bound.pairs;

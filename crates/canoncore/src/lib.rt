@@ -23,17 +23,17 @@ use errors::Refusal;
 // `apply_subst_to_core` of the term e with so much depth left, for every substitution that makes words letters.
 #[cycle(in_abs_in_call_in_dict_abs_in_dict_app_in_let_in_method_in_super_in_each_rename_core)]
 pub fn rename_core(
-    base: Base,
+    base: &Base,
     work: &mut [u64],
     room: &mut Room,
     letters: &[u64],
     depth: usize,
     e: usize,
 ) -> Result<usize, Refusal>
-    requires base_len_bound { length base.words.now ≤ 4 * room.old.top }
-    requires ready_letters { ReadyLetters base.names.now (base.words.now ++ work.old) letters.now room.old.top room.old.left e }
-    ensures { GivesLettered core 4 base.entry.names.now letters.now (base.entry.words.now ++ work.old) (base.entry.words.now ++ work.new) room.old.top room.old.left
-        (λ s. apply_core_in depth s (core base.entry.names.now (base.entry.words.now ++ work.old) e) room.old.left) (applied_of result room.new.top room.new.left) }
+    requires base_len_bound { length base.now.words.now ≤ 4 * room.old.top }
+    requires ready_letters { ReadyLetters base.now.names.now (base.now.words.now ++ work.old) letters.now room.old.top room.old.left e }
+    ensures { GivesLettered core 4 base.now.names.now letters.now (base.now.words.now ++ work.old) (base.now.words.now ++ work.new) room.old.top room.old.left
+        (λ s. apply_core_in depth s (core base.now.names.now (base.now.words.now ++ work.old) e) room.old.left) (applied_of result room.new.top room.new.left) }
 {
     if depth == 0 {
         return Err(Refusal::Depth);
@@ -65,7 +65,7 @@ pub fn rename_core(
 // The same at the function from the name x to the term b.
 #[cycle(in_abs_in_call_in_dict_abs_in_dict_app_in_let_in_method_in_super_in_each_rename_core)]
 fn in_abs(
-    base: Base,
+    base: &Base,
     work: &mut [u64],
     room: &mut Room,
     letters: &[u64],
@@ -73,10 +73,10 @@ fn in_abs(
     x: usize,
     b: usize,
 ) -> Result<usize, Refusal>
-    requires base_len_bound { length base.words.now ≤ 4 * room.old.top }
-    requires ready_letters { ReadyLetters base.names.now (base.words.now ++ work.old) letters.now room.old.top room.old.left b }
-    ensures { GivesLettered core 0 base.entry.names.now letters.now (base.entry.words.now ++ work.old) (base.entry.words.now ++ work.new) room.old.top room.old.left
-        (λ s. node_out depth room.old.left s (cabs (name_of base.entry.names.now x) (core base.entry.names.now (base.entry.words.now ++ work.old) b))) (applied_of result room.new.top room.new.left) }
+    requires base_len_bound { length base.now.words.now ≤ 4 * room.old.top }
+    requires ready_letters { ReadyLetters base.now.names.now (base.now.words.now ++ work.old) letters.now room.old.top room.old.left b }
+    ensures { GivesLettered core 0 base.now.names.now letters.now (base.now.words.now ++ work.old) (base.now.words.now ++ work.new) room.old.top room.old.left
+        (λ s. node_out depth room.old.left s (cabs (name_of base.now.names.now x) (core base.now.names.now (base.now.words.now ++ work.old) b))) (applied_of result room.new.top room.new.left) }
 {
     let m = rename_core(base, work, room, letters, depth, b)?;
     Ok(cores::push_abs(base, work, room, x, m))
@@ -85,7 +85,7 @@ fn in_abs(
 // The same at the term f applied to the term a.
 #[cycle(in_abs_in_call_in_dict_abs_in_dict_app_in_let_in_method_in_super_in_each_rename_core)]
 fn in_call(
-    base: Base,
+    base: &Base,
     work: &mut [u64],
     room: &mut Room,
     letters: &[u64],
@@ -93,11 +93,11 @@ fn in_call(
     f: usize,
     a: usize,
 ) -> Result<usize, Refusal>
-    requires base_len_bound { length base.words.now ≤ 4 * room.old.top }
-    requires ready_letters { ReadyLetters base.names.now (base.words.now ++ work.old) letters.now room.old.top room.old.left f }
-    requires node { Node (base.words.now ++ work.old) room.old.top a }
-    ensures { GivesLettered core 0 base.entry.names.now letters.now (base.entry.words.now ++ work.old) (base.entry.words.now ++ work.new) room.old.top room.old.left
-        (λ s. node_out depth room.old.left s (capp (core base.entry.names.now (base.entry.words.now ++ work.old) f) (core base.entry.names.now (base.entry.words.now ++ work.old) a))) (applied_of result room.new.top room.new.left) }
+    requires base_len_bound { length base.now.words.now ≤ 4 * room.old.top }
+    requires ready_letters { ReadyLetters base.now.names.now (base.now.words.now ++ work.old) letters.now room.old.top room.old.left f }
+    requires node { Node (base.now.words.now ++ work.old) room.old.top a }
+    ensures { GivesLettered core 0 base.now.names.now letters.now (base.now.words.now ++ work.old) (base.now.words.now ++ work.new) room.old.top room.old.left
+        (λ s. node_out depth room.old.left s (capp (core base.now.names.now (base.now.words.now ++ work.old) f) (core base.now.names.now (base.now.words.now ++ work.old) a))) (applied_of result room.new.top room.new.left) }
 {
     let m = rename_core(base, work, room, letters, depth, f)?;
     let m2 = rename_core(base, work, room, letters, depth, a)?;
@@ -107,7 +107,7 @@ fn in_call(
 // The same at the term b in which the name x stands for the term a.
 #[cycle(in_abs_in_call_in_dict_abs_in_dict_app_in_let_in_method_in_super_in_each_rename_core)]
 fn in_let(
-    base: Base,
+    base: &Base,
     work: &mut [u64],
     room: &mut Room,
     letters: &[u64],
@@ -116,11 +116,11 @@ fn in_let(
     a: usize,
     b: usize,
 ) -> Result<usize, Refusal>
-    requires base_len_bound { length base.words.now ≤ 4 * room.old.top }
-    requires ready_letters { ReadyLetters base.names.now (base.words.now ++ work.old) letters.now room.old.top room.old.left a }
-    requires node { Node (base.words.now ++ work.old) room.old.top b }
-    ensures { GivesLettered core 0 base.entry.names.now letters.now (base.entry.words.now ++ work.old) (base.entry.words.now ++ work.new) room.old.top room.old.left
-        (λ s. node_out depth room.old.left s (clet (name_of base.entry.names.now x) (core base.entry.names.now (base.entry.words.now ++ work.old) a) (core base.entry.names.now (base.entry.words.now ++ work.old) b))) (applied_of result room.new.top room.new.left) }
+    requires base_len_bound { length base.now.words.now ≤ 4 * room.old.top }
+    requires ready_letters { ReadyLetters base.now.names.now (base.now.words.now ++ work.old) letters.now room.old.top room.old.left a }
+    requires node { Node (base.now.words.now ++ work.old) room.old.top b }
+    ensures { GivesLettered core 0 base.now.names.now letters.now (base.now.words.now ++ work.old) (base.now.words.now ++ work.new) room.old.top room.old.left
+        (λ s. node_out depth room.old.left s (clet (name_of base.now.names.now x) (core base.now.names.now (base.now.words.now ++ work.old) a) (core base.now.names.now (base.now.words.now ++ work.old) b))) (applied_of result room.new.top room.new.left) }
 {
     let m = rename_core(base, work, room, letters, depth, a)?;
     let m2 = rename_core(base, work, room, letters, depth, b)?;
@@ -130,7 +130,7 @@ fn in_let(
 // The same at the term b under the binders of the list v.
 #[cycle(in_abs_in_call_in_dict_abs_in_dict_app_in_let_in_method_in_super_in_each_rename_core)]
 fn in_dict_abs(
-    base: Base,
+    base: &Base,
     work: &mut [u64],
     room: &mut Room,
     letters: &[u64],
@@ -138,11 +138,11 @@ fn in_dict_abs(
     v: usize,
     b: usize,
 ) -> Result<usize, Refusal>
-    requires base_len_bound { length base.words.now ≤ 4 * room.old.top }
-    requires ready_letters { ReadyLetters base.names.now (base.words.now ++ work.old) letters.now room.old.top room.old.left v }
-    requires node { Node (base.words.now ++ work.old) room.old.top b }
-    ensures { GivesLettered core 0 base.entry.names.now letters.now (base.entry.words.now ++ work.old) (base.entry.words.now ++ work.new) room.old.top room.old.left
-        (λ s. node_out depth room.old.left s (dict_abs (binders_of_word base.entry.names.now (base.entry.words.now ++ work.old) v) (core base.entry.names.now (base.entry.words.now ++ work.old) b))) (applied_of result room.new.top room.new.left) }
+    requires base_len_bound { length base.now.words.now ≤ 4 * room.old.top }
+    requires ready_letters { ReadyLetters base.now.names.now (base.now.words.now ++ work.old) letters.now room.old.top room.old.left v }
+    requires node { Node (base.now.words.now ++ work.old) room.old.top b }
+    ensures { GivesLettered core 0 base.now.names.now letters.now (base.now.words.now ++ work.old) (base.now.words.now ++ work.new) room.old.top room.old.left
+        (λ s. node_out depth room.old.left s (dict_abs (binders_of_word base.now.names.now (base.now.words.now ++ work.old) v) (core base.now.names.now (base.now.words.now ++ work.old) b))) (applied_of result room.new.top room.new.left) }
 {
     let m = types::rename_binders(base, work, room, letters, v)?;
     let m2 = rename_core(base, work, room, letters, depth, b)?;
@@ -152,7 +152,7 @@ fn in_dict_abs(
 // The same at the term f applied to the dictionaries of the list v.
 #[cycle(in_abs_in_call_in_dict_abs_in_dict_app_in_let_in_method_in_super_in_each_rename_core)]
 fn in_dict_app(
-    base: Base,
+    base: &Base,
     work: &mut [u64],
     room: &mut Room,
     letters: &[u64],
@@ -160,11 +160,11 @@ fn in_dict_app(
     f: usize,
     v: usize,
 ) -> Result<usize, Refusal>
-    requires base_len_bound { length base.words.now ≤ 4 * room.old.top }
-    requires ready_letters { ReadyLetters base.names.now (base.words.now ++ work.old) letters.now room.old.top room.old.left f }
-    requires node { Node (base.words.now ++ work.old) room.old.top v }
-    ensures { GivesLettered core 0 base.entry.names.now letters.now (base.entry.words.now ++ work.old) (base.entry.words.now ++ work.new) room.old.top room.old.left
-        (λ s. node_out depth room.old.left s (dict_app (core base.entry.names.now (base.entry.words.now ++ work.old) f) (cores base.entry.names.now (base.entry.words.now ++ work.old) v))) (applied_of result room.new.top room.new.left) }
+    requires base_len_bound { length base.now.words.now ≤ 4 * room.old.top }
+    requires ready_letters { ReadyLetters base.now.names.now (base.now.words.now ++ work.old) letters.now room.old.top room.old.left f }
+    requires node { Node (base.now.words.now ++ work.old) room.old.top v }
+    ensures { GivesLettered core 0 base.now.names.now letters.now (base.now.words.now ++ work.old) (base.now.words.now ++ work.new) room.old.top room.old.left
+        (λ s. node_out depth room.old.left s (dict_app (core base.now.names.now (base.now.words.now ++ work.old) f) (cores base.now.names.now (base.now.words.now ++ work.old) v))) (applied_of result room.new.top room.new.left) }
 {
     let m = rename_core(base, work, room, letters, depth, f)?;
     let m2 = lists::in_each(base, work, room, letters, depth, v)?;
@@ -174,7 +174,7 @@ fn in_dict_app(
 // The same at the method x of the dictionary a.
 #[cycle(in_abs_in_call_in_dict_abs_in_dict_app_in_let_in_method_in_super_in_each_rename_core)]
 fn in_method(
-    base: Base,
+    base: &Base,
     work: &mut [u64],
     room: &mut Room,
     letters: &[u64],
@@ -182,10 +182,10 @@ fn in_method(
     a: usize,
     x: usize,
 ) -> Result<usize, Refusal>
-    requires base_len_bound { length base.words.now ≤ 4 * room.old.top }
-    requires ready_letters { ReadyLetters base.names.now (base.words.now ++ work.old) letters.now room.old.top room.old.left a }
-    ensures { GivesLettered core 0 base.entry.names.now letters.now (base.entry.words.now ++ work.old) (base.entry.words.now ++ work.new) room.old.top room.old.left
-        (λ s. node_out depth room.old.left s (dict_proj (core base.entry.names.now (base.entry.words.now ++ work.old) a) (method (name_of base.entry.names.now x)))) (applied_of result room.new.top room.new.left) }
+    requires base_len_bound { length base.now.words.now ≤ 4 * room.old.top }
+    requires ready_letters { ReadyLetters base.now.names.now (base.now.words.now ++ work.old) letters.now room.old.top room.old.left a }
+    ensures { GivesLettered core 0 base.now.names.now letters.now (base.now.words.now ++ work.old) (base.now.words.now ++ work.new) room.old.top room.old.left
+        (λ s. node_out depth room.old.left s (dict_proj (core base.now.names.now (base.now.words.now ++ work.old) a) (method (name_of base.now.names.now x)))) (applied_of result room.new.top room.new.left) }
 {
     let m = rename_core(base, work, room, letters, depth, a)?;
     Ok(cores::push_method(base, work, room, m, x))
@@ -194,7 +194,7 @@ fn in_method(
 // The same at the dictionary of the superclass s in the dictionary a of the class c.
 #[cycle(in_abs_in_call_in_dict_abs_in_dict_app_in_let_in_method_in_super_in_each_rename_core)]
 fn in_super(
-    base: Base,
+    base: &Base,
     work: &mut [u64],
     room: &mut Room,
     letters: &[u64],
@@ -203,10 +203,10 @@ fn in_super(
     c: usize,
     s: usize,
 ) -> Result<usize, Refusal>
-    requires base_len_bound { length base.words.now ≤ 4 * room.old.top }
-    requires ready_letters { ReadyLetters base.names.now (base.words.now ++ work.old) letters.now room.old.top room.old.left a }
-    ensures { GivesLettered core 0 base.entry.names.now letters.now (base.entry.words.now ++ work.old) (base.entry.words.now ++ work.new) room.old.top room.old.left
-        (λ σ. node_out depth room.old.left σ (dict_proj (core base.entry.names.now (base.entry.words.now ++ work.old) a) (super (name_of base.entry.names.now c) (name_of base.entry.names.now s)))) (applied_of result room.new.top room.new.left) }
+    requires base_len_bound { length base.now.words.now ≤ 4 * room.old.top }
+    requires ready_letters { ReadyLetters base.now.names.now (base.now.words.now ++ work.old) letters.now room.old.top room.old.left a }
+    ensures { GivesLettered core 0 base.now.names.now letters.now (base.now.words.now ++ work.old) (base.now.words.now ++ work.new) room.old.top room.old.left
+        (λ σ. node_out depth room.old.left σ (dict_proj (core base.now.names.now (base.now.words.now ++ work.old) a) (super (name_of base.now.names.now c) (name_of base.now.names.now s)))) (applied_of result room.new.top room.new.left) }
 {
     let m = rename_core(base, work, room, letters, depth, a)?;
     Ok(cores::push_proj(base, work, room, m, c, s))

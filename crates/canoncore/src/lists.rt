@@ -11,17 +11,17 @@ use errors::Refusal;
 // The same at each term of the list v, left to right.
 #[cycle(in_abs_in_call_in_dict_abs_in_dict_app_in_let_in_method_in_super_in_each_rename_core)]
 pub fn in_each(
-    base: Base,
+    base: &Base,
     work: &mut [u64],
     room: &mut Room,
     letters: &[u64],
     depth: usize,
     v: usize,
 ) -> Result<usize, Refusal>
-    requires base_len_bound { length base.words.now ≤ 4 * room.old.top }
-    requires ready_letters { ReadyLetters base.names.now (base.words.now ++ work.old) letters.now room.old.top room.old.left v }
-    ensures { GivesLettered cores 0 base.entry.names.now letters.now (base.entry.words.now ++ work.old) (base.entry.words.now ++ work.new) room.old.top room.old.left
-        (λ s. each_core (apply_core_in depth s) (cores base.entry.names.now (base.entry.words.now ++ work.old) v) room.old.left) (applied_of result room.new.top room.new.left) }
+    requires base_len_bound { length base.now.words.now ≤ 4 * room.old.top }
+    requires ready_letters { ReadyLetters base.now.names.now (base.now.words.now ++ work.old) letters.now room.old.top room.old.left v }
+    ensures { GivesLettered cores 0 base.now.names.now letters.now (base.now.words.now ++ work.old) (base.now.words.now ++ work.new) room.old.top room.old.left
+        (λ s. each_core (apply_core_in depth s) (cores base.now.names.now (base.now.words.now ++ work.old) v) room.old.left) (applied_of result room.new.top room.new.left) }
 {
     let c = ast::cell_at(base, work, v);
     match c {

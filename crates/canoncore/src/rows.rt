@@ -18,7 +18,7 @@ use supers::rows::Row;
 
 // The pending rows from number j up to number n as a list of binders, their types renamed.
 fn rows_from(
-    base: Base,
+    base: &Base,
     work: &mut [u64],
     room: &mut Room,
     letters: &[u64],
@@ -26,11 +26,11 @@ fn rows_from(
     j: usize,
     n: usize,
 ) -> Result<usize, Refusal>
-    requires base_len_bound { length base.words.now ≤ 4 * room.old.top }
-    requires ready_rows { ReadyRows base.names.now (base.words.now ++ work.old) binders.now letters.now room.old.top room.old.left n }
+    requires base_len_bound { length base.now.words.now ≤ 4 * room.old.top }
+    requires ready_rows { ReadyRows base.now.names.now (base.now.words.now ++ work.old) binders.now letters.now room.old.top room.old.left n }
     requires j_le_n { j ≤ n }
-    ensures { GivesLettered binders_of_word 0 base.entry.names.now letters.now (base.entry.words.now ++ work.old) (base.entry.words.now ++ work.new) room.old.top room.old.left
-        (λ s. apply_preds_pending s (binders_in base.entry.names.now (base.entry.words.now ++ work.old) binders.now j n) room.old.left) (applied_of result room.new.top room.new.left) }
+    ensures { GivesLettered binders_of_word 0 base.now.names.now letters.now (base.now.words.now ++ work.old) (base.now.words.now ++ work.new) room.old.top room.old.left
+        (λ s. apply_preds_pending s (binders_in base.now.names.now (base.now.words.now ++ work.old) binders.now j n) room.old.left) (applied_of result room.new.top room.new.left) }
 {
     if j == n {
         return Ok(ast::NIL);
@@ -48,7 +48,7 @@ fn rows_from(
 
 // The term e under the binders of the first n rows, after its own step.
 fn in_rows(
-    base: Base,
+    base: &Base,
     work: &mut [u64],
     room: &mut Room,
     letters: &[u64],
@@ -56,11 +56,11 @@ fn in_rows(
     n: usize,
     e: usize,
 ) -> Result<usize, Refusal>
-    requires base_len_bound { length base.words.now ≤ 4 * room.old.top }
-    requires ready_rows { ReadyRows base.names.now (base.words.now ++ work.old) binders.now letters.now room.old.top room.old.left n }
-    requires node { Node (base.words.now ++ work.old) room.old.top e }
-    ensures { GivesLettered core 0 base.entry.names.now letters.now (base.entry.words.now ++ work.old) (base.entry.words.now ++ work.new) room.old.top room.old.left
-        (λ s. node_out 255 room.old.left s (dict_abs (binders_in base.entry.names.now (base.entry.words.now ++ work.old) binders.now 0 n) (core base.entry.names.now (base.entry.words.now ++ work.old) e))) (applied_of result room.new.top room.new.left) }
+    requires base_len_bound { length base.now.words.now ≤ 4 * room.old.top }
+    requires ready_rows { ReadyRows base.now.names.now (base.now.words.now ++ work.old) binders.now letters.now room.old.top room.old.left n }
+    requires node { Node (base.now.words.now ++ work.old) room.old.top e }
+    ensures { GivesLettered core 0 base.now.names.now letters.now (base.now.words.now ++ work.old) (base.now.words.now ++ work.new) room.old.top room.old.left
+        (λ s. node_out 255 room.old.left s (dict_abs (binders_in base.now.names.now (base.now.words.now ++ work.old) binders.now 0 n) (core base.now.names.now (base.now.words.now ++ work.old) e))) (applied_of result room.new.top room.new.left) }
 {
     let m = rows_from(base, work, room, letters, binders, 0, n)?;
     let m2 = crate::rename_core(base, work, room, letters, DEPTH - 1, e)?;
@@ -69,7 +69,7 @@ fn in_rows(
 
 // The same with its step.
 fn under_rows(
-    base: Base,
+    base: &Base,
     work: &mut [u64],
     room: &mut Room,
     letters: &[u64],
@@ -77,11 +77,11 @@ fn under_rows(
     n: usize,
     e: usize,
 ) -> Result<usize, Refusal>
-    requires base_len_bound { length base.words.now ≤ 4 * room.old.top }
-    requires ready_rows { ReadyRows base.names.now (base.words.now ++ work.old) binders.now letters.now room.old.top room.old.left n }
-    requires node { Node (base.words.now ++ work.old) room.old.top e }
-    ensures { GivesLettered core 4 base.entry.names.now letters.now (base.entry.words.now ++ work.old) (base.entry.words.now ++ work.new) room.old.top room.old.left
-        (λ s. apply_core_in 256 s (dict_abs (binders_in base.entry.names.now (base.entry.words.now ++ work.old) binders.now 0 n) (core base.entry.names.now (base.entry.words.now ++ work.old) e)) room.old.left) (applied_of result room.new.top room.new.left) }
+    requires base_len_bound { length base.now.words.now ≤ 4 * room.old.top }
+    requires ready_rows { ReadyRows base.now.names.now (base.now.words.now ++ work.old) binders.now letters.now room.old.top room.old.left n }
+    requires node { Node (base.now.words.now ++ work.old) room.old.top e }
+    ensures { GivesLettered core 4 base.now.names.now letters.now (base.now.words.now ++ work.old) (base.now.words.now ++ work.new) room.old.top room.old.left
+        (λ s. apply_core_in 256 s (dict_abs (binders_in base.now.names.now (base.now.words.now ++ work.old) binders.now 0 n) (core base.now.names.now (base.now.words.now ++ work.old) e)) room.old.left) (applied_of result room.new.top room.new.left) }
 {
     if room.left == 0 {
         return Err(Refusal::Steps);
@@ -92,7 +92,7 @@ fn under_rows(
 
 // `apply_subst_to_core` of the term e under the binders of the first n rows, for every substitution that makes words letters.
 pub fn rename_abstracted(
-    base: Base,
+    base: &Base,
     work: &mut [u64],
     room: &mut Room,
     letters: &[u64],
@@ -100,11 +100,11 @@ pub fn rename_abstracted(
     n: usize,
     e: usize,
 ) -> Result<usize, Refusal>
-    requires base_len_bound { length base.words.now ≤ 4 * room.old.top }
-    requires ready_rows { ReadyRows base.names.now (base.words.now ++ work.old) binders.now letters.now room.old.top room.old.left n }
-    requires node { Node (base.words.now ++ work.old) room.old.top e }
-    ensures { GivesLettered core 4 base.entry.names.now letters.now (base.entry.words.now ++ work.old) (base.entry.words.now ++ work.new) room.old.top room.old.left
-        (λ s. apply_core_in 256 s (abstracted (binders_in base.entry.names.now (base.entry.words.now ++ work.old) binders.now 0 n) (core base.entry.names.now (base.entry.words.now ++ work.old) e)) room.old.left) (applied_of result room.new.top room.new.left) }
+    requires base_len_bound { length base.now.words.now ≤ 4 * room.old.top }
+    requires ready_rows { ReadyRows base.now.names.now (base.now.words.now ++ work.old) binders.now letters.now room.old.top room.old.left n }
+    requires node { Node (base.now.words.now ++ work.old) room.old.top e }
+    ensures { GivesLettered core 4 base.now.names.now letters.now (base.now.words.now ++ work.old) (base.now.words.now ++ work.new) room.old.top room.old.left
+        (λ s. apply_core_in 256 s (abstracted (binders_in base.now.names.now (base.now.words.now ++ work.old) binders.now 0 n) (core base.now.names.now (base.now.words.now ++ work.old) e)) room.old.left) (applied_of result room.new.top room.new.left) }
 {
     let g = supers::rows::next_row(binders, 0, n);
     match g {

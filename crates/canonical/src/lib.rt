@@ -21,7 +21,7 @@ pub mod sorted;
 
 // The variable's word x where it lies from `from` on, below `best`, and is not free in the environment; else `best`.
 fn least_var(
-    base: Base,
+    base: &Base,
     work: &[u64],
     env: Env,
     top: usize,
@@ -29,9 +29,9 @@ fn least_var(
     best: usize,
     x: usize,
 ) -> usize
-    requires { ReadyVar base.names.now (base.words.now ++ work.now) env.rows.now env.order.now top }
-    ensures { Least base.entry.names.now (free_in base.entry.names.now (base.entry.words.now ++ work.now) env.entry.rows.now env.entry.order.now)
-        (λ v. occurs v (var (tyvar_of base.entry.names.now x))) from best result }
+    requires { ReadyVar base.now.names.now (base.now.words.now ++ work.now) env.rows.now env.order.now top }
+    ensures { Least base.now.names.now (free_in base.now.names.now (base.now.words.now ++ work.now) env.entry.rows.now env.entry.order.now)
+        (λ v. occurs v (var (tyvar_of base.now.names.now x))) from best result }
 {
     if x < from {
         return best;
@@ -48,7 +48,7 @@ fn least_var(
 // The least such word of the variables of the type t. A shared node is walked once for each place where it stands.
 #[cycle(least_in_least_list)]
 fn least_in(
-    base: Base,
+    base: &Base,
     work: &[u64],
     env: Env,
     top: usize,
@@ -56,9 +56,9 @@ fn least_in(
     best: usize,
     t: usize,
 ) -> usize
-    requires { ReadyType base.names.now (base.words.now ++ work.now) env.rows.now env.order.now top t }
-    ensures { Least base.entry.names.now (free_in base.entry.names.now (base.entry.words.now ++ work.now) env.entry.rows.now env.entry.order.now)
-        (λ v. occurs v (tree base.entry.names.now (base.entry.words.now ++ work.now) t)) from best result }
+    requires { ReadyType base.now.names.now (base.now.words.now ++ work.now) env.rows.now env.order.now top t }
+    ensures { Least base.now.names.now (free_in base.now.names.now (base.now.words.now ++ work.now) env.entry.rows.now env.entry.order.now)
+        (λ v. occurs v (tree base.now.names.now (base.now.words.now ++ work.now) t)) from best result }
 {
     let s = ast::shape_at(base, work, t);
     match s {
@@ -74,7 +74,7 @@ fn least_in(
 // The same of a list of types.
 #[cycle(least_in_least_list)]
 fn least_list(
-    base: Base,
+    base: &Base,
     work: &[u64],
     env: Env,
     top: usize,
@@ -82,9 +82,9 @@ fn least_list(
     best: usize,
     l: usize,
 ) -> usize
-    requires { ReadyType base.names.now (base.words.now ++ work.now) env.rows.now env.order.now top l }
-    ensures { Least base.entry.names.now (free_in base.entry.names.now (base.entry.words.now ++ work.now) env.entry.rows.now env.entry.order.now)
-        (λ v. occurs_in v (list base.entry.names.now (base.entry.words.now ++ work.now) l)) from best result }
+    requires { ReadyType base.now.names.now (base.now.words.now ++ work.now) env.rows.now env.order.now top l }
+    ensures { Least base.now.names.now (free_in base.now.names.now (base.now.words.now ++ work.now) env.entry.rows.now env.entry.order.now)
+        (λ v. occurs_in v (list base.now.names.now (base.now.words.now ++ work.now) l)) from best result }
 {
     let c = ast::cell_at(base, work, l);
     match c {
@@ -98,7 +98,7 @@ fn least_list(
 
 // The least such word of the variables of row i, if the row is pending.
 fn least_row(
-    base: Base,
+    base: &Base,
     work: &[u64],
     env: Env,
     binders: &[u64],
@@ -108,11 +108,11 @@ fn least_row(
     n: usize,
     i: usize,
 ) -> usize
-    requires ready_var { ReadyVar base.names.now (base.words.now ++ work.now) env.rows.now env.order.now top }
-    requires binders { Binders (base.words.now ++ work.now) binders.now top n }
+    requires ready_var { ReadyVar base.now.names.now (base.now.words.now ++ work.now) env.rows.now env.order.now top }
+    requires binders { Binders (base.now.words.now ++ work.now) binders.now top n }
     requires i_lt_n { i < n }
-    ensures { Least base.entry.names.now (free_in base.entry.names.now (base.entry.words.now ++ work.now) env.entry.rows.now env.entry.order.now)
-        (λ v. row_has base.entry.names.now (base.entry.words.now ++ work.now) (row_at binders.now i) v) from best result }
+    ensures { Least base.now.names.now (free_in base.now.names.now (base.now.words.now ++ work.now) env.entry.rows.now env.entry.order.now)
+        (λ v. row_has base.now.names.now (base.now.words.now ++ work.now) (row_at binders.now i) v) from best result }
 {
     let q = supers::rows::row_at(binders, i);
     match q {
@@ -124,7 +124,7 @@ fn least_row(
 // The least such word of the variables of the type t and of the pending ones of the first n rows, below all that are no
 // variables' words.
 fn least_above(
-    base: Base,
+    base: &Base,
     work: &[u64],
     env: Env,
     binders: &[u64],
@@ -133,9 +133,9 @@ fn least_above(
     n: usize,
     t: usize,
 ) -> usize
-    requires { ReadyRows base.names.now (base.words.now ++ work.now) env.rows.now env.order.now binders.now top n t }
-    ensures { Least base.entry.names.now (free_in base.entry.names.now (base.entry.words.now ++ work.now) env.entry.rows.now env.entry.order.now)
-        (λ v. occurs_qual v (rows_qual base.entry.names.now (base.entry.words.now ++ work.now) binders.now n t)) from first_nullary result }
+    requires { ReadyRows base.now.names.now (base.now.words.now ++ work.now) env.rows.now env.order.now binders.now top n t }
+    ensures { Least base.now.names.now (free_in base.now.names.now (base.now.words.now ++ work.now) env.entry.rows.now env.entry.order.now)
+        (λ v. occurs_qual v (rows_qual base.now.names.now (base.now.words.now ++ work.now) binders.now n t)) from first_nullary result }
 {
     let mut best = least_in(base, work, env, top, from, names::NULLARY, t);
     for i in 0..n {
@@ -148,7 +148,7 @@ fn least_above(
 // pending ones of the first n rows that are not free in the environment the 26 of least number.
 // No heap: the words go into a lent slice, and how many they are is the answer.
 pub fn letters(
-    base: Base,
+    base: &Base,
     work: &[u64],
     env: Env,
     binders: &[u64],
@@ -157,10 +157,10 @@ pub fn letters(
     n: usize,
     t: usize,
 ) -> usize
-    requires ready_rows { ReadyRows base.names.now (base.words.now ++ work.now) env.rows.now env.order.now binders.now top n t }
+    requires ready_rows { ReadyRows base.now.names.now (base.now.words.now ++ work.now) env.rows.now env.order.now binders.now top n t }
     requires in_bounds { 26 ≤ length out.old }
-    ensures { Lettered base.entry.names.now (base.entry.words.now ++ work.now) (rows_qual base.entry.names.now (base.entry.words.now ++ work.now) binders.now n t)
-        (env_of base.entry.names.now (base.entry.words.now ++ work.now) env.entry.rows.now env.entry.order.now) out.new result }
+    ensures { Lettered base.now.names.now (base.now.words.now ++ work.now) (rows_qual base.now.names.now (base.now.words.now ++ work.now) binders.now n t)
+        (env_of base.now.names.now (base.now.words.now ++ work.now) env.entry.rows.now env.entry.order.now) out.new result }
 {
     let mut from = names::FRESH;
     for k in 0..26 {

@@ -18,7 +18,7 @@ fn put(binders: &mut [u64], i: usize, v: u64)
 
 // The type of row i with its variables renamed, if the row is pending.
 fn rename_row(
-    base: Base,
+    base: &Base,
     work: &mut [u64],
     room: &mut Room,
     letters: &[u64],
@@ -26,10 +26,10 @@ fn rename_row(
     n: usize,
     i: usize,
 ) -> Result<(), Refusal>
-    requires base_len_bound { length base.words.now ≤ 4 * room.old.top }
-    requires ready_rename { ReadyRename base.names.now (base.words.now ++ work.old) letters.now binders.old room.old.top room.old.left n }
+    requires base_len_bound { length base.now.words.now ≤ 4 * room.old.top }
+    requires ready_rename { ReadyRename base.now.names.now (base.now.words.now ++ work.old) letters.now binders.old room.old.top room.old.left n }
     requires i_lt_n { i < n }
-    ensures { RenamesRow base.entry.names.now (base.entry.words.now ++ work.old) (base.entry.words.now ++ work.new) letters.now
+    ensures { RenamesRow base.now.names.now (base.now.words.now ++ work.old) (base.now.words.now ++ work.new) letters.now
         binders.old binders.new room.old.top room.old.left i (rows_of result room.new.top room.new.left) }
 {
     let q = supers::rows::row_at(binders, i);
@@ -43,16 +43,16 @@ fn rename_row(
 
 // The type of each pending one of the first n rows with its variables renamed, one row after the other.
 pub fn rename_types(
-    base: Base,
+    base: &Base,
     work: &mut [u64],
     room: &mut Room,
     letters: &[u64],
     binders: &mut [u64],
     n: usize,
 ) -> Result<(), Refusal>
-    requires base_len_bound { length base.words.now ≤ 4 * room.old.top }
-    requires ready_rename { ReadyRename base.names.now (base.words.now ++ work.old) letters.now binders.old room.old.top room.old.left n }
-    ensures { GivesRows base.entry.names.now (base.entry.words.now ++ work.old) (base.entry.words.now ++ work.new) letters.now
+    requires base_len_bound { length base.now.words.now ≤ 4 * room.old.top }
+    requires ready_rename { ReadyRename base.now.names.now (base.now.words.now ++ work.old) letters.now binders.old room.old.top room.old.left n }
+    ensures { GivesRows base.now.names.now (base.now.words.now ++ work.old) (base.now.words.now ++ work.new) letters.now
         binders.old binders.new room.old.top room.old.left n (rows_of result room.new.top room.new.left) }
 {
     for i in 0..n {
@@ -62,10 +62,16 @@ pub fn rename_types(
 }
 
 // The predicates of the pending ones of the first n rows as a list, made from the last row on.
-pub fn list_preds(base: Base, work: &mut [u64], room: &mut Room, binders: &[u64], n: usize) -> usize
-    requires base_len_bound { length base.words.now ≤ 4 * room.old.top }
-    requires ready_list { ReadyList base.names.now (base.words.now ++ work.old) binders.now room.old.top n }
-    ensures preds { Preds base.entry.names.now (base.entry.words.now ++ work.old) (base.entry.words.now ++ work.new) binders.now room.old.top n result room.new.top }
+pub fn list_preds(
+    base: &Base,
+    work: &mut [u64],
+    room: &mut Room,
+    binders: &[u64],
+    n: usize,
+) -> usize
+    requires base_len_bound { length base.now.words.now ≤ 4 * room.old.top }
+    requires ready_list { ReadyList base.now.names.now (base.now.words.now ++ work.old) binders.now room.old.top n }
+    ensures preds { Preds base.now.names.now (base.now.words.now ++ work.old) (base.now.words.now ++ work.new) binders.now room.old.top n result room.new.top }
     ensures left { room.new.left ≡ room.old.left }
 {
     let mut l = ast::NIL;
@@ -84,16 +90,16 @@ pub fn list_preds(base: Base, work: &mut [u64], room: &mut Room, binders: &[u64]
 // `apply_preds` of the canonical renaming to the pending ones of the first n rows: the rows are renamed in place, and the
 // list of their predicates is made.
 pub fn rename_rows(
-    base: Base,
+    base: &Base,
     work: &mut [u64],
     room: &mut Room,
     letters: &[u64],
     binders: &mut [u64],
     n: usize,
 ) -> Result<usize, Refusal>
-    requires base_len_bound { length base.words.now ≤ 4 * room.old.top }
-    requires ready_rename { ReadyRename base.names.now (base.words.now ++ work.old) letters.now binders.old room.old.top room.old.left n }
-    ensures { GivesRenamed base.entry.names.now (base.entry.words.now ++ work.old) (base.entry.words.now ++ work.new) letters.now
+    requires base_len_bound { length base.now.words.now ≤ 4 * room.old.top }
+    requires ready_rename { ReadyRename base.now.names.now (base.now.words.now ++ work.old) letters.now binders.old room.old.top room.old.left n }
+    ensures { GivesRenamed base.now.names.now (base.now.words.now ++ work.old) (base.now.words.now ++ work.new) letters.now
         binders.old binders.new room.old.top room.old.left n (applied_of result room.new.top room.new.left) }
 {
     rename_types(base, work, room, letters, binders, n)?;

@@ -34,7 +34,7 @@ fn is_over(names: &[u64], p: Option<usize>, x: usize) -> bool
 
 // The variable's word x where it lies before `last`, after `best`, and is not free in the environment; else `best`.
 fn last_var(
-    base: Base,
+    base: &Base,
     work: &[u64],
     env: Env,
     top: usize,
@@ -42,9 +42,9 @@ fn last_var(
     best: Option<usize>,
     x: usize,
 ) -> Option<usize>
-    requires { ReadyType base.names.now (base.words.now ++ work.now) env.rows.now env.order.now top x }
-    ensures { Last base.entry.names.now (free_in base.entry.names.now (base.entry.words.now ++ work.now) env.entry.rows.now env.entry.order.now)
-        (λ v. occurs v (var (tyvar_of base.entry.names.now x))) top last best result }
+    requires { ReadyType base.now.names.now (base.now.words.now ++ work.now) env.rows.now env.order.now top x }
+    ensures { Last base.now.names.now (free_in base.now.names.now (base.now.words.now ++ work.now) env.entry.rows.now env.entry.order.now)
+        (λ v. occurs v (var (tyvar_of base.now.names.now x))) top last best result }
 {
     if is_under(base.names, last, x) {
         if is_over(base.names, best, x) {
@@ -61,7 +61,7 @@ fn last_var(
 // The last such variable of the type t. A shared node is walked once for each place where it stands.
 #[cycle(last_in_last_list)]
 fn last_in(
-    base: Base,
+    base: &Base,
     work: &[u64],
     env: Env,
     top: usize,
@@ -69,9 +69,9 @@ fn last_in(
     best: Option<usize>,
     t: usize,
 ) -> Option<usize>
-    requires { ReadyType base.names.now (base.words.now ++ work.now) env.rows.now env.order.now top t }
-    ensures { Last base.entry.names.now (free_in base.entry.names.now (base.entry.words.now ++ work.now) env.entry.rows.now env.entry.order.now)
-        (λ v. occurs v (tree base.entry.names.now (base.entry.words.now ++ work.now) t)) top last best result }
+    requires { ReadyType base.now.names.now (base.now.words.now ++ work.now) env.rows.now env.order.now top t }
+    ensures { Last base.now.names.now (free_in base.now.names.now (base.now.words.now ++ work.now) env.entry.rows.now env.entry.order.now)
+        (λ v. occurs v (tree base.now.names.now (base.now.words.now ++ work.now) t)) top last best result }
 {
     let s = ast::shape_at(base, work, t);
     match s {
@@ -87,7 +87,7 @@ fn last_in(
 // The same of a list of types. The cells of a list of predicates are those of one of types.
 #[cycle(last_in_last_list)]
 fn last_list(
-    base: Base,
+    base: &Base,
     work: &[u64],
     env: Env,
     top: usize,
@@ -95,9 +95,9 @@ fn last_list(
     best: Option<usize>,
     l: usize,
 ) -> Option<usize>
-    requires { ReadyType base.names.now (base.words.now ++ work.now) env.rows.now env.order.now top l }
-    ensures { Last base.entry.names.now (free_in base.entry.names.now (base.entry.words.now ++ work.now) env.entry.rows.now env.entry.order.now)
-        (λ v. occurs_in v (list base.entry.names.now (base.entry.words.now ++ work.now) l)) top last best result }
+    requires { ReadyType base.now.names.now (base.now.words.now ++ work.now) env.rows.now env.order.now top l }
+    ensures { Last base.now.names.now (free_in base.now.names.now (base.now.words.now ++ work.now) env.entry.rows.now env.entry.order.now)
+        (λ v. occurs_in v (list base.now.names.now (base.now.words.now ++ work.now) l)) top last best result }
 {
     let c = ast::cell_at(base, work, l);
     match c {
@@ -111,7 +111,7 @@ fn last_list(
 
 // The last variable before `last` of the type t and of the predicates ps that is not free in the environment.
 fn last_before(
-    base: Base,
+    base: &Base,
     work: &[u64],
     env: Env,
     top: usize,
@@ -119,10 +119,10 @@ fn last_before(
     ps: usize,
     t: usize,
 ) -> Option<usize>
-    requires ready_type { ReadyType base.names.now (base.words.now ++ work.now) env.rows.now env.order.now top t }
-    requires node { Node (base.words.now ++ work.now) top ps }
-    ensures { Last base.entry.names.now (free_in base.entry.names.now (base.entry.words.now ++ work.now) env.entry.rows.now env.entry.order.now)
-        (λ v. occurs_qual v (list_qual base.entry.names.now (base.entry.words.now ++ work.now) ps t)) top last None result }
+    requires ready_type { ReadyType base.now.names.now (base.now.words.now ++ work.now) env.rows.now env.order.now top t }
+    requires node { Node (base.now.words.now ++ work.now) top ps }
+    ensures { Last base.now.names.now (free_in base.now.names.now (base.now.words.now ++ work.now) env.entry.rows.now env.entry.order.now)
+        (λ v. occurs_qual v (list_qual base.now.names.now (base.now.words.now ++ work.now) ps t)) top last None result }
 {
     let m = last_list(base, work, env, top, last, None, ps);
     last_in(base, work, env, top, last, m, t)
@@ -131,17 +131,17 @@ fn last_before(
 // The variables of the type t and of the predicates ps that are not free in the environment, in byte order: from the last one
 // on, each is put before those that follow it.
 pub fn sorted_vars(
-    base: Base,
+    base: &Base,
     work: &mut [u64],
     room: &mut Room,
     env: Env,
     ps: usize,
     t: usize,
 ) -> usize
-    requires base_len_bound { length base.words.now ≤ 4 * room.old.top }
-    requires ready_vars { ReadyVars base.names.now (base.words.now ++ work.old) env.rows.now env.order.now room.old.top ps t }
-    ensures sorted { Sorted base.entry.names.now (base.entry.words.now ++ work.old) (base.entry.words.now ++ work.new)
-        (list_qual base.entry.names.now (base.entry.words.now ++ work.old) ps t) (env_of base.entry.names.now (base.entry.words.now ++ work.old) env.entry.rows.now env.entry.order.now)
+    requires base_len_bound { length base.now.words.now ≤ 4 * room.old.top }
+    requires ready_vars { ReadyVars base.now.names.now (base.now.words.now ++ work.old) env.rows.now env.order.now room.old.top ps t }
+    ensures sorted { Sorted base.now.names.now (base.now.words.now ++ work.old) (base.now.words.now ++ work.new)
+        (list_qual base.now.names.now (base.now.words.now ++ work.old) ps t) (env_of base.now.names.now (base.now.words.now ++ work.old) env.entry.rows.now env.entry.order.now)
         room.old.top result room.new.top }
     ensures left { room.new.left ≡ room.old.left }
 {

@@ -36,7 +36,7 @@ pub fn are_typed(binders: &[u64], top: usize, n: usize) -> bool
 }
 
 // Writes what became of each row.
-pub fn all<W: Write>(out: &mut W, base: Base, work: &[u64], binders: &[u64]) -> io::Result<()> {
+pub fn all<W: Write>(out: &mut W, base: &Base, work: &[u64], binders: &[u64]) -> io::Result<()> {
     for j in 0..binders.len() / 3 {
         row(out, base, work, binders, j)?;
     }
@@ -44,7 +44,13 @@ pub fn all<W: Write>(out: &mut W, base: Base, work: &[u64], binders: &[u64]) -> 
 }
 
 // Writes what became of a row.
-fn row<W: Write>(out: &mut W, base: Base, work: &[u64], binders: &[u64], j: usize) -> io::Result<()>
+fn row<W: Write>(
+    out: &mut W,
+    base: &Base,
+    work: &[u64],
+    binders: &[u64],
+    j: usize,
+) -> io::Result<()>
     requires { 3 * j + 3 ≤ length binders.now }
 {
     match supers::rows::row_at(binders, j) {

@@ -6,7 +6,7 @@ use std::io;
 use std::io::Write;
 
 // What a dictionary is; `self`, if it does not lie in the words.
-fn part(base: Base, work: &[u64], t: usize) -> Part {
+fn part(base: &Base, work: &[u64], t: usize) -> Part {
     if say::is_there(base, work, t) {
         return cores::part_at(base, work, t);
     }
@@ -15,7 +15,7 @@ fn part(base: Base, work: &[u64], t: usize) -> Part {
 
 // Writes the name of the i-th dictionary of a context.
 fn context<W: Write>(out: &mut W, names: &[u64], c: usize, i: usize) -> io::Result<()> {
-    write!(out, "d_ctx_")?;
+    out.write_all(b"d_ctx_")?;
     say::name(out, names, c)?;
     write!(out, "_{i}")
 }
@@ -23,32 +23,32 @@ fn context<W: Write>(out: &mut W, names: &[u64], c: usize, i: usize) -> io::Resu
 // Writes an instance's record.
 fn record_of<W: Write>(
     out: &mut W,
-    base: Base,
+    base: &Base,
     work: &[u64],
     c: usize,
     t: usize,
 ) -> io::Result<()> {
-    write!(out, "(rec ")?;
+    out.write_all(b"(rec ")?;
     say::name(out, base.names, c)?;
-    write!(out, " ")?;
+    out.write_all(b" ")?;
     say::whole(out, base, work, t)?;
-    write!(out, ")")
+    out.write_all(b")")
 }
 
 // Writes the name of a superclass's field.
 fn field<W: Write>(out: &mut W, names: &[u64], c: usize, s: usize) -> io::Result<()> {
-    write!(out, " __super_")?;
+    out.write_all(b" __super_")?;
     say::name(out, names, c)?;
-    write!(out, "__")?;
+    out.write_all(b"__")?;
     say::name(out, names, s)?;
-    write!(out, ")")
+    out.write_all(b")")
 }
 
 // Writes a dictionary, so many levels of it. Resolution, reduction and simplification make only these.
 #[cycle(dictionaries_dictionary)]
 fn dictionary<W: Write>(
     out: &mut W,
-    base: Base,
+    base: &Base,
     work: &[u64],
     depth: usize,
     t: usize,
@@ -61,15 +61,15 @@ fn dictionary<W: Write>(
         Part::Context(c, i) => context(out, base.names, c, i),
         Part::Rec(c, u, _) => record_of(out, base, work, c, u),
         Part::Super(e, c, s) => {
-            write!(out, "(proj ")?;
+            out.write_all(b"(proj ")?;
             dictionary(out, base, work, depth - 1, e)?;
             field(out, base.names, c, s)
         }
         Part::DictApp(f, l) => {
-            write!(out, "(dapp ")?;
+            out.write_all(b"(dapp ")?;
             dictionary(out, base, work, depth - 1, f)?;
             dictionaries(out, base, work, depth - 1, l)?;
-            write!(out, ")")
+            out.write_all(b")")
         }
         _ => Ok(()),
     }
@@ -79,7 +79,7 @@ fn dictionary<W: Write>(
 #[cycle(dictionaries_dictionary)]
 fn dictionaries<W: Write>(
     out: &mut W,
-    base: Base,
+    base: &Base,
     work: &[u64],
     depth: usize,
     l: usize,
@@ -90,7 +90,7 @@ fn dictionaries<W: Write>(
     match say::cell(base, work, l) {
         Cell::Nil => Ok(()),
         Cell::Cons(a, b) => {
-            write!(out, " ")?;
+            out.write_all(b" ")?;
             dictionary(out, base, work, depth - 1, a)?;
             dictionaries(out, base, work, depth - 1, b)
         }
@@ -98,6 +98,6 @@ fn dictionaries<W: Write>(
 }
 
 // Writes a dictionary: none that is written has as many levels.
-pub fn whole<W: Write>(out: &mut W, base: Base, work: &[u64], e: usize) -> io::Result<()> {
+pub fn whole<W: Write>(out: &mut W, base: &Base, work: &[u64], e: usize) -> io::Result<()> {
     dictionary(out, base, work, 1000000, e)
 }

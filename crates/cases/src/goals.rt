@@ -8,9 +8,9 @@ use crate::ready;
 use ast::{Base, Cell, Room};
 
 // Whether a list has at most so many predicates.
-fn is_short(base: Base, work: &[u64], top: usize, l: usize, most: usize) -> bool
-    requires { Node (base.words.now ++ work.now) top l }
-    ensures { result ≡ true → Short (base.entry.words.now ++ work.now) l most }
+fn is_short(base: &Base, work: &[u64], top: usize, l: usize, most: usize) -> bool
+    requires { Node (base.now.words.now ++ work.now) top l }
+    ensures { result ≡ true → Short (base.now.words.now ++ work.now) l most }
 {
     let c = ast::cell_at(base, work, l);
     match c {
@@ -25,10 +25,10 @@ fn is_short(base: Base, work: &[u64], top: usize, l: usize, most: usize) -> bool
 }
 
 // Whether the word of instance i is a list of the table with a first predicate.
-fn has_head(base: Base, work: &[u64], insts: &[u64], top: usize, i: usize) -> bool
+fn has_head(base: &Base, work: &[u64], insts: &[u64], top: usize, i: usize) -> bool
     requires top_in_bounds { 4 * top ≤ length work.now }
     requires i_in_bounds { i < length insts.now }
-    ensures { result ≡ true → Headed (base.entry.words.now ++ work.now) top (get_or insts.now i 0) }
+    ensures { result ≡ true → Headed (base.now.words.now ++ work.now) top (get_or insts.now i 0) }
 {
     let l = insts[i] as usize;
     if l >= names::NODE + top {
@@ -42,10 +42,10 @@ fn has_head(base: Base, work: &[u64], insts: &[u64], top: usize, i: usize) -> bo
 }
 
 // Whether all instances are such lists.
-fn have_heads(base: Base, work: &[u64], insts: &[u64], top: usize) -> bool
+fn have_heads(base: &Base, work: &[u64], insts: &[u64], top: usize) -> bool
     requires top_in_bounds { 4 * top ≤ length work.now }
-    requires table { Table (base.words.now ++ work.now) top }
-    ensures { result ≡ true → Heads (base.entry.words.now ++ work.now) top insts.now }
+    requires table { Table (base.now.words.now ++ work.now) top }
+    ensures { result ≡ true → Heads (base.now.words.now ++ work.now) top insts.now }
 {
     for i in 0..insts.len() {
         if !has_head(base, work, insts, top, i) {
@@ -57,7 +57,7 @@ fn have_heads(base: Base, work: &[u64], insts: &[u64], top: usize) -> bool
 
 // Whether the words are a case: instances, the context l of a head of class h, and a type t.
 pub fn is_posed(
-    base: Base,
+    base: &Base,
     work: &[u64],
     insts: &[u64],
     room: Room,
@@ -65,7 +65,7 @@ pub fn is_posed(
     l: usize,
     t: usize,
 ) -> bool
-    ensures { result ≡ true → Posed (base.entry.words.now ++ work.now) (length work.now) insts.now room.top room.left h l t }
+    ensures { result ≡ true → Posed (base.now.words.now ++ work.now) (length work.now) insts.now room.top room.left h l t }
 {
     if h >= 65536 {
         return false;

@@ -28,7 +28,7 @@ fn push(work: &mut [u64], room: &mut Room, tag: u64, a: usize, b: usize) -> usiz
         words: &[],
         names: &[],
     };
-    ast::add(none, work, room, tag, a, b)
+    ast::add(&none, work, room, tag, a, b)
 }
 
 // Makes the list of the n items that stand next, of so many bytes each, from the last one on: `cons` reads an item and puts

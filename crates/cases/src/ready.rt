@@ -37,9 +37,9 @@ fn cell_rises(l: Cell, t: usize) -> bool
 }
 
 // Whether node n refers to a word that is not below its own.
-fn rises(base: Base, work: &[u64], n: usize) -> bool
+fn rises(base: &Base, work: &[u64], n: usize) -> bool
     requires { 4 * n + 4 ≤ length work.now }
-    ensures { result ≡ false → Falls (base.entry.words.now ++ work.now) n }
+    ensures { result ≡ false → Falls (base.now.words.now ++ work.now) n }
 {
     let t = names::NODE + n;
     let s = ast::shape_at(base, work, t);
@@ -51,9 +51,9 @@ fn rises(base: Base, work: &[u64], n: usize) -> bool
 }
 
 // Whether the first top nodes are a table.
-fn is_table(base: Base, work: &[u64], top: usize) -> bool
+fn is_table(base: &Base, work: &[u64], top: usize) -> bool
     requires { 4 * top ≤ length work.now }
-    ensures { result ≡ true → Table (base.entry.words.now ++ work.now) top }
+    ensures { result ≡ true → Table (base.now.words.now ++ work.now) top }
 {
     for n in 0..top {
         if rises(base, work, n) {
@@ -64,8 +64,8 @@ fn is_table(base: Base, work: &[u64], top: usize) -> bool
 }
 
 // Whether s and t are types of a table, and there is room for the steps.
-pub fn is_ready(base: Base, work: &[u64], room: Room, s: usize, t: usize) -> bool
-    ensures { result ≡ true → Fits (base.entry.words.now ++ work.now) (length work.now) room.top room.left s t }
+pub fn is_ready(base: &Base, work: &[u64], room: Room, s: usize, t: usize) -> bool
+    ensures { result ≡ true → Fits (base.now.words.now ++ work.now) (length work.now) room.top room.left s t }
 {
     let n = work.len();
     if room.top > n / 4 {

@@ -35,8 +35,8 @@ pub fn variable<W: Write>(out: &mut W, names: &[u64], x: usize) -> io::Result<()
 }
 
 // Whether the word t is no node, or one that lies in the words.
-pub fn is_there(base: Base, work: &[u64], t: usize) -> bool
-    ensures { result ≡ true → 4 * t + 4 ≤ 4 * first_node + length (base.entry.words.now ++ work.now) }
+pub fn is_there(base: &Base, work: &[u64], t: usize) -> bool
+    ensures { result ≡ true → 4 * t + 4 ≤ 4 * first_node + length (base.now.words.now ++ work.now) }
 {
     if t < names::NODE {
         return true;
@@ -45,7 +45,7 @@ pub fn is_there(base: Base, work: &[u64], t: usize) -> bool
 }
 
 // What a type is; a variable, if it does not lie in the words.
-fn shape(base: Base, work: &[u64], t: usize) -> Shape {
+fn shape(base: &Base, work: &[u64], t: usize) -> Shape {
     if is_there(base, work, t) {
         return ast::shape_at(base, work, t);
     }
@@ -53,7 +53,7 @@ fn shape(base: Base, work: &[u64], t: usize) -> Shape {
 }
 
 // What a list is; empty, if it does not lie in the words.
-pub fn cell(base: Base, work: &[u64], l: usize) -> Cell {
+pub fn cell(base: &Base, work: &[u64], l: usize) -> Cell {
     if is_there(base, work, l) {
         return ast::cell_at(base, work, l);
     }
@@ -64,7 +64,7 @@ pub fn cell(base: Base, work: &[u64], l: usize) -> Cell {
 #[cycle(arrow_con_list_tree)]
 fn con<W: Write>(
     out: &mut W,
-    base: Base,
+    base: &Base,
     work: &[u64],
     depth: usize,
     c: usize,
@@ -73,22 +73,28 @@ fn con<W: Write>(
     if l == ast::NIL {
         return name(out, base.names, c);
     }
-    write!(out, "(")?;
+    out.write_all(b"(")?;
     name(out, base.names, c)?;
     list(out, base, work, depth, l)?;
-    write!(out, ")")
+    out.write_all(b")")
 }
 
 // Writes a list of types, a blank before each.
 #[cycle(arrow_con_list_tree)]
-fn list<W: Write>(out: &mut W, base: Base, work: &[u64], depth: usize, l: usize) -> io::Result<()> {
+fn list<W: Write>(
+    out: &mut W,
+    base: &Base,
+    work: &[u64],
+    depth: usize,
+    l: usize,
+) -> io::Result<()> {
     if depth == 0 {
         return Ok(());
     }
     match cell(base, work, l) {
         Cell::Nil => Ok(()),
         Cell::Cons(a, b) => {
-            write!(out, " ")?;
+            out.write_all(b" ")?;
             tree(out, base, work, depth - 1, a)?;
             list(out, base, work, depth - 1, b)
         }
@@ -99,22 +105,28 @@ fn list<W: Write>(out: &mut W, base: Base, work: &[u64], depth: usize, l: usize)
 #[cycle(arrow_con_list_tree)]
 fn arrow<W: Write>(
     out: &mut W,
-    base: Base,
+    base: &Base,
     work: &[u64],
     depth: usize,
     a: usize,
     b: usize,
 ) -> io::Result<()> {
-    write!(out, "(-> ")?;
+    out.write_all(b"(-> ")?;
     tree(out, base, work, depth, a)?;
-    write!(out, " ")?;
+    out.write_all(b" ")?;
     tree(out, base, work, depth, b)?;
-    write!(out, ")")
+    out.write_all(b")")
 }
 
 // Writes a type, so many levels of it.
 #[cycle(arrow_con_list_tree)]
-fn tree<W: Write>(out: &mut W, base: Base, work: &[u64], depth: usize, t: usize) -> io::Result<()> {
+fn tree<W: Write>(
+    out: &mut W,
+    base: &Base,
+    work: &[u64],
+    depth: usize,
+    t: usize,
+) -> io::Result<()> {
     if depth == 0 {
         return Ok(());
     }
@@ -126,17 +138,17 @@ fn tree<W: Write>(out: &mut W, base: Base, work: &[u64], depth: usize, t: usize)
 }
 
 // Writes a type: no recorded answer has as many levels.
-pub fn whole<W: Write>(out: &mut W, base: Base, work: &[u64], t: usize) -> io::Result<()> {
+pub fn whole<W: Write>(out: &mut W, base: &Base, work: &[u64], t: usize) -> io::Result<()> {
     tree(out, base, work, 1000000, t)
 }
 
 // Writes a list of types, a blank before each: no list that is written has as many.
-pub fn all<W: Write>(out: &mut W, base: Base, work: &[u64], l: usize) -> io::Result<()> {
+pub fn all<W: Write>(out: &mut W, base: &Base, work: &[u64], l: usize) -> io::Result<()> {
     list(out, base, work, 1000000, l)
 }
 
 // Writes two types, a blank before each.
-fn types<W: Write>(out: &mut W, base: Base, work: &[u64], a: usize, b: usize) -> io::Result<()> {
+fn types<W: Write>(out: &mut W, base: &Base, work: &[u64], a: usize, b: usize) -> io::Result<()> {
     write!(out, " ")?;
     whole(out, base, work, a)?;
     write!(out, " ")?;
@@ -144,7 +156,7 @@ fn types<W: Write>(out: &mut W, base: Base, work: &[u64], a: usize, b: usize) ->
 }
 
 // Writes a variable and a type, a blank before each.
-fn binding<W: Write>(out: &mut W, base: Base, work: &[u64], v: usize, t: usize) -> io::Result<()> {
+fn binding<W: Write>(out: &mut W, base: &Base, work: &[u64], v: usize, t: usize) -> io::Result<()> {
     write!(out, " ")?;
     variable(out, base.names, v)?;
     write!(out, " ")?;
@@ -167,7 +179,13 @@ fn arity<W: Write>(out: &mut W, names: &[u64], c: usize, m: usize, n: usize) -> 
 }
 
 // Writes a class and a type, a blank before each.
-fn of_class<W: Write>(out: &mut W, base: Base, work: &[u64], c: usize, t: usize) -> io::Result<()> {
+fn of_class<W: Write>(
+    out: &mut W,
+    base: &Base,
+    work: &[u64],
+    c: usize,
+    t: usize,
+) -> io::Result<()> {
     write!(out, " ")?;
     name(out, base.names, c)?;
     write!(out, " ")?;
@@ -178,7 +196,7 @@ fn of_class<W: Write>(out: &mut W, base: Base, work: &[u64], c: usize, t: usize)
 // 6 and 7 have none.
 pub fn refusal<W: Write>(
     out: &mut W,
-    base: Base,
+    base: &Base,
     work: &[u64],
     e: Refusal,
     left: usize,

@@ -81,7 +81,7 @@ pub fn add_class(
 
 // `add_instance`: whether an instance of class c at t may be added. Its words are the caller's to keep.
 pub fn add_instance(
-    base: Base,
+    base: &Base,
     work: &mut [u64],
     room: &mut Room,
     classes: &[u64],
@@ -90,10 +90,10 @@ pub fn add_instance(
     c: usize,
     t: usize,
 ) -> Result<(), Refusal>
-    requires base_len_bound { length base.words.now ≤ 4 * room.old.top }
-    requires ready_pick { ReadyPick base.names.now (base.words.now ++ work.old) insts.now room.old.top room.old.left sp t }
-    ensures gives { GivesInstance base.entry.names.now classes.now (base.entry.words.now ++ work.old) (base.entry.words.now ++ work.new) insts.now room.old.top room.old.left sp
-        (pred (name_of base.entry.names.now c) (tree base.entry.names.now (base.entry.words.now ++ work.old) t)) (apart_of result room.new.top room.new.left) }
+    requires base_len_bound { length base.now.words.now ≤ 4 * room.old.top }
+    requires ready_pick { ReadyPick base.now.names.now (base.now.words.now ++ work.old) insts.now room.old.top room.old.left sp t }
+    ensures gives { GivesInstance base.now.names.now classes.now (base.now.words.now ++ work.old) (base.now.words.now ++ work.new) insts.now room.old.top room.old.left sp
+        (pred (name_of base.now.names.now c) (tree base.now.names.now (base.now.words.now ++ work.old) t)) (apart_of result room.new.top room.new.left) }
     ensures stays { IfOk result (λ x. room.new.top ≡ room.old.top) }
 {
     let known = supers::is_declared(classes, c);

@@ -58,7 +58,7 @@ pub record Agreeing (ns w : List ℕ) (lo k₂ k₁ i : ℕ) : Type 0 where
   pub upto : i ≤ k₁
   pub is : (left : ℕ) → agree (sub_at ns w (lo + 2 * k₂) k₁) (sub_at ns w lo k₂) left ≡ agree (sub_at ns w (lo + 2 * k₂ + 2 * i) (k₁ - i)) (sub_at ns w lo k₂) left
 
--- Some first nothing is said.
+-- At first nothing is said.
 pub agreeing : (ns w : List ℕ) (lo k₂ k₁ : ℕ) → Agreeing ns w lo k₂ k₁ 0
 agreeing ns w lo k₂ k₁ =
     let e : lo + 2 * k₂ + 2 * 0 ≡ lo + 2 * k₂ = omega arith in
@@ -89,7 +89,7 @@ module _ {ns w : List ℕ} {lo k₂ k₁ i : ℕ} (A : Agreeing ns w lo k₂ k�
   found : get tyvars (tyvar_of ns x) (sub_at ns w lo k₂) ≡ type_of ns w f
   found = rw ef (get_is ns N w lo k₂ x)
 
-  -- None: the pair agrees.
+  -- Nothing: the pair agrees.
   pub agreeing_absent : f ≡ None → Agreeing ns w lo k₂ k₁ (i + 1)
   agreeing_absent e = record { upto = omega arith; is = λ left. opened left ∙ agree_absent _ _ _ left (found ∙ ap (type_of ns w) e) }
 

@@ -65,7 +65,7 @@ pub record Merging (ns w₀ w : List ℕ) (lo k₂ k₁ j c : ℕ) : Type 0 wher
   pub after : (q : ℕ) → lo + 2 * k₂ + 2 * k₁ ≤ q → get_or w q 0 ≡ get_or w₀ q 0
   pub given : (top left : ℕ) → Both ns w₀ top left lo k₂ k₁ → MergingAs ns w₀ w lo k₂ k₁ j c top
 
--- Some first all pairs are left.
+-- At first all pairs are left.
 pub merging : (ns w : List ℕ) (lo k₂ k₁ : ℕ) → Merging ns w w lo k₂ k₁ k₂ k₁
 merging ns w lo k₂ k₁ = record {
   long = refl;

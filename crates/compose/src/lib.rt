@@ -28,10 +28,10 @@ pub struct Ending {
 }
 
 // How many of the pairs come before a new pair of the variable x.
-fn place(base: Base, work: &[u64], sub: Subst, x: usize) -> usize
-    requires names { Names base.names.now }
-    requires k_in_bounds { sub.at + 2 * sub.k ≤ length (base.words.now ++ work.now) }
-    ensures { Place base.entry.names.now (base.entry.words.now ++ work.now) sub.at sub.k x result }
+fn place(base: &Base, work: &[u64], sub: Subst, x: usize) -> usize
+    requires names { Names base.now.names.now }
+    requires k_in_bounds { sub.at + 2 * sub.k ≤ length (base.now.words.now ++ work.now) }
+    ensures { Place base.now.names.now (base.now.words.now ++ work.now) sub.at sub.k x result }
 {
     for j in 0..sub.k {
         let y = ast::index(base, work, sub.at + 2 * j);
@@ -43,11 +43,11 @@ fn place(base: Base, work: &[u64], sub: Subst, x: usize) -> usize
 }
 
 // Moves the words from to + 2 up to end down by two.
-fn shift(base: Base, work: &mut [u64], to: usize, end: usize)
-    requires base_len_bound { length base.words.now ≤ to }
+fn shift(base: &Base, work: &mut [u64], to: usize, end: usize)
+    requires base_len_bound { length base.now.words.now ≤ to }
     requires to_bound { to + 2 ≤ end }
-    requires end_in_bounds { end ≤ length (base.words.now ++ work.old) }
-    ensures { Shifted (base.entry.words.now ++ work.old) (base.entry.words.now ++ work.new) to end }
+    requires end_in_bounds { end ≤ length (base.now.words.now ++ work.old) }
+    ensures { Shifted (base.now.words.now ++ work.old) (base.now.words.now ++ work.new) to end }
 {
     for i in to..end - 2 {
         let v = ast::index(base, work, i + 2);
@@ -56,11 +56,11 @@ fn shift(base: Base, work: &mut [u64], to: usize, end: usize)
 }
 
 // Writes the pair x, t at its place among the k pairs from to + 2, of which those before it move down.
-fn insert(base: Base, work: &mut [u64], to: usize, k: usize, x: usize, t: usize)
-    requires names { Names base.names.now }
-    requires base_len_bound { length base.words.now ≤ to }
-    requires k_in_bounds { to + 2 + 2 * k ≤ length (base.words.now ++ work.old) }
-    ensures { Opened base.entry.names.now (base.entry.words.now ++ work.old) (base.entry.words.now ++ work.new) to k x t }
+fn insert(base: &Base, work: &mut [u64], to: usize, k: usize, x: usize, t: usize)
+    requires names { Names base.now.names.now }
+    requires base_len_bound { length base.now.words.now ≤ to }
+    requires k_in_bounds { to + 2 + 2 * k ≤ length (base.now.words.now ++ work.old) }
+    ensures { Opened base.now.names.now (base.now.words.now ++ work.old) (base.now.words.now ++ work.new) to k x t }
 {
     let j = place(base, work, Subst { at: to + 2, k }, x);
     let i = to + 2 * j;
@@ -70,11 +70,11 @@ fn insert(base: Base, work: &mut [u64], to: usize, k: usize, x: usize, t: usize)
 }
 
 // Adds the pair x, t to the pairs, if they have not the variable x; how many there are then.
-fn add(base: Base, work: &mut [u64], end: Ending, x: usize, t: usize) -> usize
-    requires names { Names base.names.now }
-    requires c_len_bound { length base.words.now + 2 * end.k + 2 ≤ end.hi }
-    requires hi_in_bounds { end.hi ≤ length (base.words.now ++ work.old) }
-    ensures { Added base.entry.names.now (base.entry.words.now ++ work.old) (base.entry.words.now ++ work.new) end.hi end.k x t result }
+fn add(base: &Base, work: &mut [u64], end: Ending, x: usize, t: usize) -> usize
+    requires names { Names base.now.names.now }
+    requires c_len_bound { length base.now.words.now + 2 * end.k + 2 ≤ end.hi }
+    requires hi_in_bounds { end.hi ≤ length (base.now.words.now ++ work.old) }
+    ensures { Added base.now.names.now (base.now.words.now ++ work.old) (base.now.words.now ++ work.new) end.hi end.k x t result }
 {
     let at = end.hi - 2 * end.k;
     let f = pairs::find(base, work, Subst { at, k: end.k }, x);
@@ -88,11 +88,11 @@ fn add(base: Base, work: &mut [u64], end: Ending, x: usize, t: usize) -> usize
 }
 
 // Adds the first pairs to those after them; how many there are then, up to where those ended.
-fn merge_in(base: Base, work: &mut [u64], sides: Beside) -> usize
-    requires names { Names base.names.now }
-    requires base_len_bound { length base.words.now ≤ sides.lo }
-    requires k1_in_bounds { sides.lo + 2 * sides.k2 + 2 * sides.k1 ≤ length (base.words.now ++ work.old) }
-    ensures { Merged base.entry.names.now (base.entry.words.now ++ work.old) (base.entry.words.now ++ work.new) sides.lo sides.k2 sides.k1 result }
+fn merge_in(base: &Base, work: &mut [u64], sides: Beside) -> usize
+    requires names { Names base.now.names.now }
+    requires base_len_bound { length base.now.words.now ≤ sides.lo }
+    requires k1_in_bounds { sides.lo + 2 * sides.k2 + 2 * sides.k1 ≤ length (base.now.words.now ++ work.old) }
+    ensures { Merged base.now.names.now (base.now.words.now ++ work.old) (base.now.words.now ++ work.new) sides.lo sides.k2 sides.k1 result }
 {
     let hi = sides.lo + 2 * sides.k2 + 2 * sides.k1;
     let mut c = sides.k1;
@@ -106,11 +106,11 @@ fn merge_in(base: Base, work: &mut [u64], sides: Beside) -> usize
 }
 
 // Applies the first pairs to the types of those after them.
-fn sweep(base: Base, work: &mut [u64], room: &mut Room, sides: Beside) -> Result<(), Refusal>
-    requires base_len_bound { length base.words.now ≤ 4 * room.old.top }
-    requires both { Both base.names.now (base.words.now ++ work.old) room.old.top room.old.left sides.lo sides.k2 sides.k1 }
-    ensures { Swept base.entry.names.now (base.entry.words.now ++ work.old) (base.entry.words.now ++ work.new) room.old.top room.old.left sides.lo sides.k2 sides.k1
-        (apply_values (sub_at base.entry.names.now (base.entry.words.now ++ work.old) sides.lo sides.k2) (sub_at base.entry.names.now (base.entry.words.now ++ work.old) (sides.lo + 2 * sides.k2) sides.k1) room.old.left) result room.new.top room.new.left }
+fn sweep(base: &Base, work: &mut [u64], room: &mut Room, sides: Beside) -> Result<(), Refusal>
+    requires base_len_bound { length base.now.words.now ≤ 4 * room.old.top }
+    requires both { Both base.now.names.now (base.now.words.now ++ work.old) room.old.top room.old.left sides.lo sides.k2 sides.k1 }
+    ensures { Swept base.now.names.now (base.now.words.now ++ work.old) (base.now.words.now ++ work.new) room.old.top room.old.left sides.lo sides.k2 sides.k1
+        (apply_values (sub_at base.now.names.now (base.now.words.now ++ work.old) sides.lo sides.k2) (sub_at base.now.names.now (base.now.words.now ++ work.old) (sides.lo + 2 * sides.k2) sides.k1) room.old.left) result room.new.top room.new.left }
 {
     let sub = Subst {
         at: sides.lo,
@@ -128,15 +128,15 @@ fn sweep(base: Base, work: &mut [u64], room: &mut Room, sides: Beside) -> Result
 
 // `self.compose(other)`: self is the first pairs, other those after them; in their place.
 pub fn compose_in(
-    base: Base,
+    base: &Base,
     work: &mut [u64],
     room: &mut Room,
     sides: Beside,
 ) -> Result<usize, Refusal>
-    requires base_len_bound { length base.words.now ≤ 4 * room.old.top }
-    requires both { Both base.names.now (base.words.now ++ work.old) room.old.top room.old.left sides.lo sides.k2 sides.k1 }
-    ensures { GivesSub (4 * room.old.top + 8 * room.old.left + 2 * sides.k2 + 2 * sides.k1) base.entry.names.now (base.entry.words.now ++ work.old) (base.entry.words.now ++ work.new) room.old.top room.old.left (sides.lo + 2 * sides.k2 + 2 * sides.k1)
-        (compose (sub_at base.entry.names.now (base.entry.words.now ++ work.old) sides.lo sides.k2) (sub_at base.entry.names.now (base.entry.words.now ++ work.old) (sides.lo + 2 * sides.k2) sides.k1) room.old.left) (applied_of result room.new.top room.new.left) }
+    requires base_len_bound { length base.now.words.now ≤ 4 * room.old.top }
+    requires both { Both base.now.names.now (base.now.words.now ++ work.old) room.old.top room.old.left sides.lo sides.k2 sides.k1 }
+    ensures { GivesSub (4 * room.old.top + 8 * room.old.left + 2 * sides.k2 + 2 * sides.k1) base.now.names.now (base.now.words.now ++ work.old) (base.now.words.now ++ work.new) room.old.top room.old.left (sides.lo + 2 * sides.k2 + 2 * sides.k1)
+        (compose (sub_at base.now.names.now (base.now.words.now ++ work.old) sides.lo sides.k2) (sub_at base.now.names.now (base.now.words.now ++ work.old) (sides.lo + 2 * sides.k2) sides.k1) room.old.left) (applied_of result room.new.top room.new.left) }
 {
     sweep(base, work, room, sides)?;
     Ok(merge_in(base, work, sides))
@@ -144,9 +144,9 @@ pub fn compose_in(
 
 // The pairs after the first ones against these, in their order: whether they agree, or two types of one variable that
 // differ.
-fn agree(base: Base, work: &[u64], top: usize, sides: Beside) -> Result<(), Refusal>
-    requires { Regions base.names.now (base.words.now ++ work.now) top sides.lo sides.k2 sides.k1 }
-    ensures { Agrees base.entry.names.now (base.entry.words.now ++ work.now) top sides.lo sides.k2 sides.k1 result }
+fn agree(base: &Base, work: &[u64], top: usize, sides: Beside) -> Result<(), Refusal>
+    requires { Regions base.now.names.now (base.now.words.now ++ work.now) top sides.lo sides.k2 sides.k1 }
+    ensures { Agrees base.now.names.now (base.now.words.now ++ work.now) top sides.lo sides.k2 sides.k1 result }
 {
     let at = sides.lo + 2 * sides.k2;
     for i in 0..sides.k1 {
@@ -172,15 +172,15 @@ fn agree(base: Base, work: &[u64], top: usize, sides: Beside) -> Result<(), Refu
 
 // `self.merge(other)`: other is the first pairs, self those after them; in their place.
 pub fn merge_pairs(
-    base: Base,
+    base: &Base,
     work: &mut [u64],
     room: &mut Room,
     sides: Beside,
 ) -> Result<usize, Refusal>
-    requires base_len_bound { length base.words.now ≤ 4 * room.old.top }
-    requires both { Both base.names.now (base.words.now ++ work.old) room.old.top room.old.left sides.lo sides.k2 sides.k1 }
-    ensures { GivesSub (4 * room.old.top + 8 * room.old.left + 2 * sides.k2 + 2 * sides.k1) base.entry.names.now (base.entry.words.now ++ work.old) (base.entry.words.now ++ work.new) room.old.top room.old.left (sides.lo + 2 * sides.k2 + 2 * sides.k1)
-        (merge (sub_at base.entry.names.now (base.entry.words.now ++ work.old) (sides.lo + 2 * sides.k2) sides.k1) (sub_at base.entry.names.now (base.entry.words.now ++ work.old) sides.lo sides.k2) room.old.left) (applied_of result room.new.top room.new.left) }
+    requires base_len_bound { length base.now.words.now ≤ 4 * room.old.top }
+    requires both { Both base.now.names.now (base.now.words.now ++ work.old) room.old.top room.old.left sides.lo sides.k2 sides.k1 }
+    ensures { GivesSub (4 * room.old.top + 8 * room.old.left + 2 * sides.k2 + 2 * sides.k1) base.now.names.now (base.now.words.now ++ work.old) (base.now.words.now ++ work.new) room.old.top room.old.left (sides.lo + 2 * sides.k2 + 2 * sides.k1)
+        (merge (sub_at base.now.names.now (base.now.words.now ++ work.old) (sides.lo + 2 * sides.k2) sides.k1) (sub_at base.now.names.now (base.now.words.now ++ work.old) sides.lo sides.k2) room.old.left) (applied_of result room.new.top room.new.left) }
 {
     agree(base, work, room.top, sides)?;
     Ok(merge_in(base, work, sides))

@@ -82,9 +82,9 @@ fn node_part(tag: u64, a: usize, b: usize, d: usize) -> Part
 }
 
 // What node n says.
-fn read_part(base: Base, work: &[u64], n: usize) -> Part
-    requires { 4 * n + 4 ≤ length (base.words.now ++ work.now) }
-    ensures { result ≡ read_part (base.entry.words.now ++ work.now) n }
+fn read_part(base: &Base, work: &[u64], n: usize) -> Part
+    requires { 4 * n + 4 ≤ length (base.now.words.now ++ work.now) }
+    ensures { result ≡ read_part (base.now.words.now ++ work.now) n }
 {
     let i = 4 * n;
     let tag = ast::get(base, work, i);
@@ -117,9 +117,9 @@ fn is_below(t: usize, p: Part) -> bool
 }
 
 // What the core term t says.
-pub fn part_at(base: Base, work: &[u64], t: usize) -> Part
-    requires { 4 * t + 4 ≤ 4 * first_node + length (base.words.now ++ work.now) }
-    ensures { result ≡ part_of (base.entry.words.now ++ work.now) t }
+pub fn part_at(base: &Base, work: &[u64], t: usize) -> Part
+    requires { 4 * t + 4 ≤ 4 * first_node + length (base.now.words.now ++ work.now) }
+    ensures { result ≡ part_of (base.now.words.now ++ work.now) t }
 {
     let k = names::kind_of(t);
     match k {
@@ -138,7 +138,7 @@ pub fn part_at(base: Base, work: &[u64], t: usize) -> Part
 
 // Writes the next node, a tag and three fields, and answers its word.
 fn push_four(
-    base: Base,
+    base: &Base,
     work: &mut [u64],
     room: &mut Room,
     tag: u64,
@@ -146,9 +146,9 @@ fn push_four(
     b: usize,
     d: usize,
 ) -> usize
-    requires base_len_bound { length base.words.now ≤ 4 * room.old.top }
-    requires top_in_bounds { 4 * room.old.top + 4 ≤ length (base.words.now ++ work.old) }
-    ensures is { base.entry.words.now ++ work.new ≡ pushed_four (base.entry.words.now ++ work.old) room.old.top tag a b d }
+    requires base_len_bound { length base.now.words.now ≤ 4 * room.old.top }
+    requires top_in_bounds { 4 * room.old.top + 4 ≤ length (base.now.words.now ++ work.old) }
+    ensures is { base.now.words.now ++ work.new ≡ pushed_four (base.now.words.now ++ work.old) room.old.top tag a b d }
     ensures word { result ≡ first_node + room.old.top }
     ensures top { room.new.top ≡ room.old.top + 1 }
     ensures left { room.new.left ≡ room.old.left }
@@ -158,10 +158,10 @@ fn push_four(
 }
 
 // Writes the next node: the number v.
-pub fn push_int(base: Base, work: &mut [u64], room: &mut Room, v: usize) -> usize
-    requires base_len_bound { length base.words.now ≤ 4 * room.old.top }
-    requires top_in_bounds { 4 * room.old.top + 4 ≤ length (base.words.now ++ work.old) }
-    ensures is { base.entry.words.now ++ work.new ≡ pushed_four (base.entry.words.now ++ work.old) room.old.top 12 v 0 0 }
+pub fn push_int(base: &Base, work: &mut [u64], room: &mut Room, v: usize) -> usize
+    requires base_len_bound { length base.now.words.now ≤ 4 * room.old.top }
+    requires top_in_bounds { 4 * room.old.top + 4 ≤ length (base.now.words.now ++ work.old) }
+    ensures is { base.now.words.now ++ work.new ≡ pushed_four (base.now.words.now ++ work.old) room.old.top 12 v 0 0 }
     ensures word { result ≡ first_node + room.old.top }
     ensures top { room.new.top ≡ room.old.top + 1 }
     ensures left { room.new.left ≡ room.old.left }
@@ -171,16 +171,16 @@ pub fn push_int(base: Base, work: &mut [u64], room: &mut Room, v: usize) -> usiz
 
 // Writes the next node: the dictionary of the superclass s in the dictionary e of the class c.
 pub fn push_proj(
-    base: Base,
+    base: &Base,
     work: &mut [u64],
     room: &mut Room,
     e: usize,
     c: usize,
     s: usize,
 ) -> usize
-    requires base_len_bound { length base.words.now ≤ 4 * room.old.top }
-    requires top_in_bounds { 4 * room.old.top + 4 ≤ length (base.words.now ++ work.old) }
-    ensures is { base.entry.words.now ++ work.new ≡ pushed_four (base.entry.words.now ++ work.old) room.old.top 10 e c s }
+    requires base_len_bound { length base.now.words.now ≤ 4 * room.old.top }
+    requires top_in_bounds { 4 * room.old.top + 4 ≤ length (base.now.words.now ++ work.old) }
+    ensures is { base.now.words.now ++ work.new ≡ pushed_four (base.now.words.now ++ work.old) room.old.top 10 e c s }
     ensures word { result ≡ first_node + room.old.top }
     ensures top { room.new.top ≡ room.old.top + 1 }
     ensures left { room.new.left ≡ room.old.left }
@@ -190,16 +190,16 @@ pub fn push_proj(
 
 // Writes the next node: the record of instance i, of the class c at the type t.
 pub fn push_rec(
-    base: Base,
+    base: &Base,
     work: &mut [u64],
     room: &mut Room,
     c: usize,
     t: usize,
     i: usize,
 ) -> usize
-    requires base_len_bound { length base.words.now ≤ 4 * room.old.top }
-    requires top_in_bounds { 4 * room.old.top + 4 ≤ length (base.words.now ++ work.old) }
-    ensures is { base.entry.words.now ++ work.new ≡ pushed_four (base.entry.words.now ++ work.old) room.old.top 11 c t i }
+    requires base_len_bound { length base.now.words.now ≤ 4 * room.old.top }
+    requires top_in_bounds { 4 * room.old.top + 4 ≤ length (base.now.words.now ++ work.old) }
+    ensures is { base.now.words.now ++ work.new ≡ pushed_four (base.now.words.now ++ work.old) room.old.top 11 c t i }
     ensures word { result ≡ first_node + room.old.top }
     ensures top { room.new.top ≡ room.old.top + 1 }
     ensures left { room.new.left ≡ room.old.left }
@@ -208,10 +208,10 @@ pub fn push_rec(
 }
 
 // Writes the next node: the dictionary f applied to the dictionaries of the list l.
-pub fn push_app(base: Base, work: &mut [u64], room: &mut Room, f: usize, l: usize) -> usize
-    requires base_len_bound { length base.words.now ≤ 4 * room.old.top }
-    requires top_in_bounds { 4 * room.old.top + 4 ≤ length (base.words.now ++ work.old) }
-    ensures is { base.entry.words.now ++ work.new ≡ pushed_four (base.entry.words.now ++ work.old) room.old.top 8 f l 0 }
+pub fn push_app(base: &Base, work: &mut [u64], room: &mut Room, f: usize, l: usize) -> usize
+    requires base_len_bound { length base.now.words.now ≤ 4 * room.old.top }
+    requires top_in_bounds { 4 * room.old.top + 4 ≤ length (base.now.words.now ++ work.old) }
+    ensures is { base.now.words.now ++ work.new ≡ pushed_four (base.now.words.now ++ work.old) room.old.top 8 f l 0 }
     ensures word { result ≡ first_node + room.old.top }
     ensures top { room.new.top ≡ room.old.top + 1 }
     ensures left { room.new.left ≡ room.old.left }
@@ -220,10 +220,10 @@ pub fn push_app(base: Base, work: &mut [u64], room: &mut Room, f: usize, l: usiz
 }
 
 // Writes the next node: the function from the name x to the term e.
-pub fn push_abs(base: Base, work: &mut [u64], room: &mut Room, x: usize, e: usize) -> usize
-    requires base_len_bound { length base.words.now ≤ 4 * room.old.top }
-    requires top_in_bounds { 4 * room.old.top + 4 ≤ length (base.words.now ++ work.old) }
-    ensures is { base.entry.words.now ++ work.new ≡ pushed_four (base.entry.words.now ++ work.old) room.old.top 4 x e 0 }
+pub fn push_abs(base: &Base, work: &mut [u64], room: &mut Room, x: usize, e: usize) -> usize
+    requires base_len_bound { length base.now.words.now ≤ 4 * room.old.top }
+    requires top_in_bounds { 4 * room.old.top + 4 ≤ length (base.now.words.now ++ work.old) }
+    ensures is { base.now.words.now ++ work.new ≡ pushed_four (base.now.words.now ++ work.old) room.old.top 4 x e 0 }
     ensures word { result ≡ first_node + room.old.top }
     ensures top { room.new.top ≡ room.old.top + 1 }
     ensures left { room.new.left ≡ room.old.left }
@@ -232,10 +232,10 @@ pub fn push_abs(base: Base, work: &mut [u64], room: &mut Room, x: usize, e: usiz
 }
 
 // Writes the next node: the term f applied to the term e.
-pub fn push_call(base: Base, work: &mut [u64], room: &mut Room, f: usize, e: usize) -> usize
-    requires base_len_bound { length base.words.now ≤ 4 * room.old.top }
-    requires top_in_bounds { 4 * room.old.top + 4 ≤ length (base.words.now ++ work.old) }
-    ensures is { base.entry.words.now ++ work.new ≡ pushed_four (base.entry.words.now ++ work.old) room.old.top 5 f e 0 }
+pub fn push_call(base: &Base, work: &mut [u64], room: &mut Room, f: usize, e: usize) -> usize
+    requires base_len_bound { length base.now.words.now ≤ 4 * room.old.top }
+    requires top_in_bounds { 4 * room.old.top + 4 ≤ length (base.now.words.now ++ work.old) }
+    ensures is { base.now.words.now ++ work.new ≡ pushed_four (base.now.words.now ++ work.old) room.old.top 5 f e 0 }
     ensures word { result ≡ first_node + room.old.top }
     ensures top { room.new.top ≡ room.old.top + 1 }
     ensures left { room.new.left ≡ room.old.left }
@@ -245,16 +245,16 @@ pub fn push_call(base: Base, work: &mut [u64], room: &mut Room, f: usize, e: usi
 
 // Writes the next node: the term f, in which the name x stands for the term e.
 pub fn push_let(
-    base: Base,
+    base: &Base,
     work: &mut [u64],
     room: &mut Room,
     x: usize,
     e: usize,
     f: usize,
 ) -> usize
-    requires base_len_bound { length base.words.now ≤ 4 * room.old.top }
-    requires top_in_bounds { 4 * room.old.top + 4 ≤ length (base.words.now ++ work.old) }
-    ensures is { base.entry.words.now ++ work.new ≡ pushed_four (base.entry.words.now ++ work.old) room.old.top 6 x e f }
+    requires base_len_bound { length base.now.words.now ≤ 4 * room.old.top }
+    requires top_in_bounds { 4 * room.old.top + 4 ≤ length (base.now.words.now ++ work.old) }
+    ensures is { base.now.words.now ++ work.new ≡ pushed_four (base.now.words.now ++ work.old) room.old.top 6 x e f }
     ensures word { result ≡ first_node + room.old.top }
     ensures top { room.new.top ≡ room.old.top + 1 }
     ensures left { room.new.left ≡ room.old.left }
@@ -263,10 +263,10 @@ pub fn push_let(
 }
 
 // Writes the next node: the term e under the binders of the list l.
-pub fn push_dict_abs(base: Base, work: &mut [u64], room: &mut Room, l: usize, e: usize) -> usize
-    requires base_len_bound { length base.words.now ≤ 4 * room.old.top }
-    requires top_in_bounds { 4 * room.old.top + 4 ≤ length (base.words.now ++ work.old) }
-    ensures is { base.entry.words.now ++ work.new ≡ pushed_four (base.entry.words.now ++ work.old) room.old.top 7 l e 0 }
+pub fn push_dict_abs(base: &Base, work: &mut [u64], room: &mut Room, l: usize, e: usize) -> usize
+    requires base_len_bound { length base.now.words.now ≤ 4 * room.old.top }
+    requires top_in_bounds { 4 * room.old.top + 4 ≤ length (base.now.words.now ++ work.old) }
+    ensures is { base.now.words.now ++ work.new ≡ pushed_four (base.now.words.now ++ work.old) room.old.top 7 l e 0 }
     ensures word { result ≡ first_node + room.old.top }
     ensures top { room.new.top ≡ room.old.top + 1 }
     ensures left { room.new.left ≡ room.old.left }
@@ -275,10 +275,10 @@ pub fn push_dict_abs(base: Base, work: &mut [u64], room: &mut Room, l: usize, e:
 }
 
 // Writes the next node: the method m of the dictionary e.
-pub fn push_method(base: Base, work: &mut [u64], room: &mut Room, e: usize, m: usize) -> usize
-    requires base_len_bound { length base.words.now ≤ 4 * room.old.top }
-    requires top_in_bounds { 4 * room.old.top + 4 ≤ length (base.words.now ++ work.old) }
-    ensures is { base.entry.words.now ++ work.new ≡ pushed_four (base.entry.words.now ++ work.old) room.old.top 9 e m 0 }
+pub fn push_method(base: &Base, work: &mut [u64], room: &mut Room, e: usize, m: usize) -> usize
+    requires base_len_bound { length base.now.words.now ≤ 4 * room.old.top }
+    requires top_in_bounds { 4 * room.old.top + 4 ≤ length (base.now.words.now ++ work.old) }
+    ensures is { base.now.words.now ++ work.new ≡ pushed_four (base.now.words.now ++ work.old) room.old.top 9 e m 0 }
     ensures word { result ≡ first_node + room.old.top }
     ensures top { room.new.top ≡ room.old.top + 1 }
     ensures left { room.new.left ≡ room.old.left }

@@ -34,7 +34,7 @@ pub struct Join {
 // The end of `infer_abs`: the k pairs that end at sp applied to the variable a, the arrow from that to t, and the
 // function of x with the body e.
 pub fn abs_end(
-    base: Base,
+    base: &Base,
     work: &mut [u64],
     room: &mut Room,
     sp: usize,
@@ -44,11 +44,11 @@ pub fn abs_end(
     x: usize,
     e: usize,
 ) -> Result<Function, Refusal>
-    requires base_len_bound { length base.words.now ≤ 4 * room.old.top }
-    requires ready_abs { ReadyAbs base.names.now (base.words.now ++ work.old) room.old.top room.old.left sp k a t e }
-    ensures { GivesAbs base.entry.names.now (base.entry.words.now ++ work.old) (base.entry.words.now ++ work.new) room.old.top room.old.left
-        (abs_ended (sub_at base.entry.names.now (base.entry.words.now ++ work.old) (sp - 2 * k) k) (tyvar_of base.entry.names.now a)
-        (tree base.entry.names.now (base.entry.words.now ++ work.old) t) (name_of base.entry.names.now x) (core base.entry.names.now (base.entry.words.now ++ work.old) e) room.old.left) (ended_of result room.new.top room.new.left) }
+    requires base_len_bound { length base.now.words.now ≤ 4 * room.old.top }
+    requires ready_abs { ReadyAbs base.now.names.now (base.now.words.now ++ work.old) room.old.top room.old.left sp k a t e }
+    ensures { GivesAbs base.now.names.now (base.now.words.now ++ work.old) (base.now.words.now ++ work.new) room.old.top room.old.left
+        (abs_ended (sub_at base.now.names.now (base.now.words.now ++ work.old) (sp - 2 * k) k) (tyvar_of base.now.names.now a)
+        (tree base.now.names.now (base.now.words.now ++ work.old) t) (name_of base.now.names.now x) (core base.now.names.now (base.now.words.now ++ work.old) e) room.old.left) (ended_of result room.new.top room.new.left) }
 {
     let sub = Subst { at: sp - 2 * k, k };
     let u = apply::apply(base, work, room, DEPTH, sub, a)?;
@@ -60,7 +60,7 @@ pub fn abs_end(
 // The type tf after the k2 pairs from lo, where the stack ends, unified with the arrow from tx to the variable a; the
 // pairs that it gives end at lo.
 fn meet(
-    base: Base,
+    base: &Base,
     work: &mut [u64],
     room: &mut Room,
     lo: usize,
@@ -69,11 +69,11 @@ fn meet(
     tf: usize,
     tx: usize,
 ) -> Result<usize, Refusal>
-    requires base_len_bound { length base.words.now ≤ 4 * room.old.top }
-    requires ready_meet { ReadyMeet base.names.now (base.words.now ++ work.old) room.old.top room.old.left lo k2 a tf tx }
-    ensures { GivesU 1 0 base.entry.names.now (base.entry.words.now ++ work.old) (base.entry.words.now ++ work.new) room.old.top room.old.left lo
-        (met (sub_at base.entry.names.now (base.entry.words.now ++ work.old) lo k2) (tree base.entry.names.now (base.entry.words.now ++ work.old) tf)
-        (tree base.entry.names.now (base.entry.words.now ++ work.old) tx) (tyvar_of base.entry.names.now a) room.old.left) (applied_of result room.new.top room.new.left) }
+    requires base_len_bound { length base.now.words.now ≤ 4 * room.old.top }
+    requires ready_meet { ReadyMeet base.now.names.now (base.now.words.now ++ work.old) room.old.top room.old.left lo k2 a tf tx }
+    ensures { GivesU 1 0 base.now.names.now (base.now.words.now ++ work.old) (base.now.words.now ++ work.new) room.old.top room.old.left lo
+        (met (sub_at base.now.names.now (base.now.words.now ++ work.old) lo k2) (tree base.now.names.now (base.now.words.now ++ work.old) tf)
+        (tree base.now.names.now (base.now.words.now ++ work.old) tx) (tyvar_of base.now.names.now a) room.old.left) (applied_of result room.new.top room.new.left) }
 {
     let sub = Subst { at: lo, k: k2 };
     let u = apply::apply(base, work, room, DEPTH, sub, tf)?;
@@ -82,22 +82,22 @@ fn meet(
 }
 
 // Moves the words from at up to end up, so that they end at to.
-fn raise(base: Base, work: &mut [u64], at: usize, end: usize, to: usize)
-    requires base_len_bound { length base.words.now ≤ at }
+fn raise(base: &Base, work: &mut [u64], at: usize, end: usize, to: usize)
+    requires base_len_bound { length base.now.words.now ≤ at }
     requires at_le_end { at ≤ end }
     requires end_le_to { end ≤ to }
-    requires to_in_bounds { to ≤ length (base.words.now ++ work.old) }
-    ensures { Raised (base.entry.words.now ++ work.old) (base.entry.words.now ++ work.new) at end (to - end) }
+    requires to_in_bounds { to ≤ length (base.now.words.now ++ work.old) }
+    ensures { Raised (base.now.words.now ++ work.old) (base.now.words.now ++ work.new) at end (to - end) }
 {
     let n = base.words.len();
     work.copy_within(at - n..end - n, at + (to - end) - n);
 }
 
 // What the pairs say of the variable a.
-fn seen(base: Base, work: &[u64], sub: Subst, a: usize) -> usize
-    requires k_in_bounds { sub.at + 2 * sub.k ≤ length (base.words.now ++ work.now) }
+fn seen(base: &Base, work: &[u64], sub: Subst, a: usize) -> usize
+    requires k_in_bounds { sub.at + 2 * sub.k ≤ length (base.now.words.now ++ work.now) }
     requires a_lt_first_nullary { a < first_nullary }
-    ensures { Seen (base.entry.words.now ++ work.now) sub.at sub.k a result }
+    ensures { Seen (base.now.words.now ++ work.now) sub.at sub.k a result }
 {
     pairs::find(base, work, sub, a).unwrap_or(a)
 }
@@ -105,7 +105,7 @@ fn seen(base: Base, work: &[u64], sub: Subst, a: usize) -> usize
 // Three regions side by side that end at sp become one that ends there: k1 pairs, then the k2 below them, then the k3
 // below those.
 fn gather(
-    base: Base,
+    base: &Base,
     work: &mut [u64],
     room: &mut Room,
     sp: usize,
@@ -113,11 +113,11 @@ fn gather(
     k2: usize,
     k1: usize,
 ) -> Result<usize, Refusal>
-    requires base_len_bound { length base.words.now ≤ 4 * room.old.top }
-    requires ready_gather { ReadyGather base.names.now (base.words.now ++ work.old) room.old.top room.old.left sp k3 k2 k1 }
-    ensures { GivesU 0 (2 * k3 + 2 * k2 + 2 * k1) base.entry.names.now (base.entry.words.now ++ work.old) (base.entry.words.now ++ work.new) room.old.top room.old.left sp
-        (gathered (sub_at base.entry.names.now (base.entry.words.now ++ work.old) (sp - 2 * k1 - 2 * k2 - 2 * k3) k3)
-        (sub_at base.entry.names.now (base.entry.words.now ++ work.old) (sp - 2 * k1 - 2 * k2) k2) (sub_at base.entry.names.now (base.entry.words.now ++ work.old) (sp - 2 * k1) k1) room.old.left) (applied_of result room.new.top room.new.left) }
+    requires base_len_bound { length base.now.words.now ≤ 4 * room.old.top }
+    requires ready_gather { ReadyGather base.now.names.now (base.now.words.now ++ work.old) room.old.top room.old.left sp k3 k2 k1 }
+    ensures { GivesU 0 (2 * k3 + 2 * k2 + 2 * k1) base.now.names.now (base.now.words.now ++ work.old) (base.now.words.now ++ work.new) room.old.top room.old.left sp
+        (gathered (sub_at base.now.names.now (base.now.words.now ++ work.old) (sp - 2 * k1 - 2 * k2 - 2 * k3) k3)
+        (sub_at base.now.names.now (base.now.words.now ++ work.old) (sp - 2 * k1 - 2 * k2) k2) (sub_at base.now.names.now (base.now.words.now ++ work.old) (sp - 2 * k1) k1) room.old.left) (applied_of result room.new.top room.new.left) }
 {
     let lo = sp - 2 * k1 - 2 * k2;
     let c = compose::compose_in(base, work, room, Beside { lo, k2, k1 })?;
@@ -133,7 +133,7 @@ fn gather(
 
 // The three regions made one, and what the lowest of them says of the variable a, which takes a step.
 fn close(
-    base: Base,
+    base: &Base,
     work: &mut [u64],
     room: &mut Room,
     sp: usize,
@@ -142,13 +142,13 @@ fn close(
     k1: usize,
     a: usize,
 ) -> Result<Join, Refusal>
-    requires base_len_bound { length base.words.now ≤ 4 * room.old.top }
+    requires base_len_bound { length base.now.words.now ≤ 4 * room.old.top }
     requires a_lt_first_nullary { a < first_nullary }
-    requires ready_gather { ReadyGather base.names.now (base.words.now ++ work.old) room.old.top room.old.left sp k3 k2 k1 }
-    ensures { GivesJoin 8 1 (2 * k3 + 2 * k2 + 2 * k1) base.entry.names.now (base.entry.words.now ++ work.old) (base.entry.words.now ++ work.new) room.old.top room.old.left sp
-        (closed (sub_at base.entry.names.now (base.entry.words.now ++ work.old) (sp - 2 * k1 - 2 * k2 - 2 * k3) k3)
-        (sub_at base.entry.names.now (base.entry.words.now ++ work.old) (sp - 2 * k1 - 2 * k2) k2) (sub_at base.entry.names.now (base.entry.words.now ++ work.old) (sp - 2 * k1) k1)
-        (tyvar_of base.entry.names.now a) room.old.left) (joined_of result room.new.top room.new.left) }
+    requires ready_gather { ReadyGather base.now.names.now (base.now.words.now ++ work.old) room.old.top room.old.left sp k3 k2 k1 }
+    ensures { GivesJoin 8 1 (2 * k3 + 2 * k2 + 2 * k1) base.now.names.now (base.now.words.now ++ work.old) (base.now.words.now ++ work.new) room.old.top room.old.left sp
+        (closed (sub_at base.now.names.now (base.now.words.now ++ work.old) (sp - 2 * k1 - 2 * k2 - 2 * k3) k3)
+        (sub_at base.now.names.now (base.now.words.now ++ work.old) (sp - 2 * k1 - 2 * k2) k2) (sub_at base.now.names.now (base.now.words.now ++ work.old) (sp - 2 * k1) k1)
+        (tyvar_of base.now.names.now a) room.old.left) (joined_of result room.new.top room.new.left) }
 {
     let sub = Subst {
         at: sp - 2 * k1 - 2 * k2 - 2 * k3,
@@ -166,7 +166,7 @@ fn close(
 // The end of `infer_app`: the type tf of the function, after the k2 pairs of the argument, unified with the arrow from
 // tx to the variable a; all substitutions composed, the k1 pairs of the function first; and the type of a.
 pub fn app_end(
-    base: Base,
+    base: &Base,
     work: &mut [u64],
     room: &mut Room,
     sp: usize,
@@ -176,12 +176,12 @@ pub fn app_end(
     tf: usize,
     tx: usize,
 ) -> Result<Join, Refusal>
-    requires base_len_bound { length base.words.now ≤ 4 * room.old.top }
-    requires ready_app { ReadyApp base.names.now (base.words.now ++ work.old) room.old.top room.old.left sp k1 k2 a tf tx }
-    ensures { GivesJoin 14 2 (2 * k1 + 2 * k2) base.entry.names.now (base.entry.words.now ++ work.old) (base.entry.words.now ++ work.new) room.old.top room.old.left sp
-        (joined (sub_at base.entry.names.now (base.entry.words.now ++ work.old) (sp - 2 * k1) k1) (tree base.entry.names.now (base.entry.words.now ++ work.old) tf)
-        (sub_at base.entry.names.now (base.entry.words.now ++ work.old) (sp - 2 * k1 - 2 * k2) k2) (tree base.entry.names.now (base.entry.words.now ++ work.old) tx)
-        (tyvar_of base.entry.names.now a) room.old.left) (joined_of result room.new.top room.new.left) }
+    requires base_len_bound { length base.now.words.now ≤ 4 * room.old.top }
+    requires ready_app { ReadyApp base.now.names.now (base.now.words.now ++ work.old) room.old.top room.old.left sp k1 k2 a tf tx }
+    ensures { GivesJoin 14 2 (2 * k1 + 2 * k2) base.now.names.now (base.now.words.now ++ work.old) (base.now.words.now ++ work.new) room.old.top room.old.left sp
+        (joined (sub_at base.now.names.now (base.now.words.now ++ work.old) (sp - 2 * k1) k1) (tree base.now.names.now (base.now.words.now ++ work.old) tf)
+        (sub_at base.now.names.now (base.now.words.now ++ work.old) (sp - 2 * k1 - 2 * k2) k2) (tree base.now.names.now (base.now.words.now ++ work.old) tx)
+        (tyvar_of base.now.names.now a) room.old.left) (joined_of result room.new.top room.new.left) }
 {
     let lo = sp - 2 * k1 - 2 * k2;
     let k3 = meet(base, work, room, lo, k2, a, tf, tx)?;

@@ -15,16 +15,16 @@ use ast::{Base, Cell, Room, Shape};
 use subst::Scheme;
 
 // The variable of word x before those of the list out, unless it is there or one of the list vs.
-fn add_but(base: Base, work: &mut [u64], room: &mut Room, vs: usize, out: usize, x: usize) -> usize
-    requires base_len_bound { length base.words.now ≤ 4 * room.old.top }
-    requires node { Node (base.words.now ++ work.old) room.old.top vs }
-    requires node_2 { Node (base.words.now ++ work.old) room.old.top out }
-    requires node_3 { Node (base.words.now ++ work.old) room.old.top x }
-    requires wants { Wants base.names.now (base.words.now ++ work.old) room.old.top (vars_of_word base.names.now (base.words.now ++ work.old) out)
-        (add_but (vars_of_word base.names.now (base.words.now ++ work.old) vs) (tyvar_of base.names.now x) (vars_of_word base.names.now (base.words.now ++ work.old) out)) }
-    ensures collects { Collects base.entry.names.now (base.entry.words.now ++ work.old) (base.entry.words.now ++ work.new) room.old.top
-        (vars_of_word base.entry.names.now (base.entry.words.now ++ work.old) out)
-        (add_but (vars_of_word base.entry.names.now (base.entry.words.now ++ work.old) vs) (tyvar_of base.entry.names.now x) (vars_of_word base.entry.names.now (base.entry.words.now ++ work.old) out)) result room.new.top }
+fn add_but(base: &Base, work: &mut [u64], room: &mut Room, vs: usize, out: usize, x: usize) -> usize
+    requires base_len_bound { length base.now.words.now ≤ 4 * room.old.top }
+    requires node { Node (base.now.words.now ++ work.old) room.old.top vs }
+    requires node_2 { Node (base.now.words.now ++ work.old) room.old.top out }
+    requires node_3 { Node (base.now.words.now ++ work.old) room.old.top x }
+    requires wants { Wants base.now.names.now (base.now.words.now ++ work.old) room.old.top (vars_of_word base.now.names.now (base.now.words.now ++ work.old) out)
+        (add_but (vars_of_word base.now.names.now (base.now.words.now ++ work.old) vs) (tyvar_of base.now.names.now x) (vars_of_word base.now.names.now (base.now.words.now ++ work.old) out)) }
+    ensures collects { Collects base.now.names.now (base.now.words.now ++ work.old) (base.now.words.now ++ work.new) room.old.top
+        (vars_of_word base.now.names.now (base.now.words.now ++ work.old) out)
+        (add_but (vars_of_word base.now.names.now (base.now.words.now ++ work.old) vs) (tyvar_of base.now.names.now x) (vars_of_word base.now.names.now (base.now.words.now ++ work.old) out)) result room.new.top }
     ensures left { room.new.left ≡ room.old.left }
 {
     if vars::has_var(base, work, room.top, vs, x) {
@@ -39,22 +39,22 @@ fn add_but(base: Base, work: &mut [u64], room: &mut Room, vs: usize, out: usize,
 // The variables of the type t before those of the list out; those of the list vs are passed over.
 #[cycle(free_type_free_types)]
 fn free_type(
-    base: Base,
+    base: &Base,
     work: &mut [u64],
     room: &mut Room,
     vs: usize,
     out: usize,
     t: usize,
 ) -> usize
-    requires base_len_bound { length base.words.now ≤ 4 * room.old.top }
-    requires node { Node (base.words.now ++ work.old) room.old.top vs }
-    requires node_2 { Node (base.words.now ++ work.old) room.old.top out }
-    requires node_3 { Node (base.words.now ++ work.old) room.old.top t }
-    requires wants { Wants base.names.now (base.words.now ++ work.old) room.old.top (vars_of_word base.names.now (base.words.now ++ work.old) out)
-        (free_type (vars_of_word base.names.now (base.words.now ++ work.old) vs) (tree base.names.now (base.words.now ++ work.old) t) (vars_of_word base.names.now (base.words.now ++ work.old) out)) }
-    ensures collects { Collects base.entry.names.now (base.entry.words.now ++ work.old) (base.entry.words.now ++ work.new) room.old.top
-        (vars_of_word base.entry.names.now (base.entry.words.now ++ work.old) out)
-        (free_type (vars_of_word base.entry.names.now (base.entry.words.now ++ work.old) vs) (tree base.entry.names.now (base.entry.words.now ++ work.old) t) (vars_of_word base.entry.names.now (base.entry.words.now ++ work.old) out)) result room.new.top }
+    requires base_len_bound { length base.now.words.now ≤ 4 * room.old.top }
+    requires node { Node (base.now.words.now ++ work.old) room.old.top vs }
+    requires node_2 { Node (base.now.words.now ++ work.old) room.old.top out }
+    requires node_3 { Node (base.now.words.now ++ work.old) room.old.top t }
+    requires wants { Wants base.now.names.now (base.now.words.now ++ work.old) room.old.top (vars_of_word base.now.names.now (base.now.words.now ++ work.old) out)
+        (free_type (vars_of_word base.now.names.now (base.now.words.now ++ work.old) vs) (tree base.now.names.now (base.now.words.now ++ work.old) t) (vars_of_word base.now.names.now (base.now.words.now ++ work.old) out)) }
+    ensures collects { Collects base.now.names.now (base.now.words.now ++ work.old) (base.now.words.now ++ work.new) room.old.top
+        (vars_of_word base.now.names.now (base.now.words.now ++ work.old) out)
+        (free_type (vars_of_word base.now.names.now (base.now.words.now ++ work.old) vs) (tree base.now.names.now (base.now.words.now ++ work.old) t) (vars_of_word base.now.names.now (base.now.words.now ++ work.old) out)) result room.new.top }
     ensures left { room.new.left ≡ room.old.left }
 {
     let s = ast::shape_at(base, work, t);
@@ -71,22 +71,22 @@ fn free_type(
 // The variables of the types of the list l before those of the list out; those of the list vs are passed over.
 #[cycle(free_type_free_types)]
 fn free_types(
-    base: Base,
+    base: &Base,
     work: &mut [u64],
     room: &mut Room,
     vs: usize,
     out: usize,
     l: usize,
 ) -> usize
-    requires base_len_bound { length base.words.now ≤ 4 * room.old.top }
-    requires node { Node (base.words.now ++ work.old) room.old.top vs }
-    requires node_2 { Node (base.words.now ++ work.old) room.old.top out }
-    requires node_3 { Node (base.words.now ++ work.old) room.old.top l }
-    requires wants { Wants base.names.now (base.words.now ++ work.old) room.old.top (vars_of_word base.names.now (base.words.now ++ work.old) out)
-        (free_types (vars_of_word base.names.now (base.words.now ++ work.old) vs) (list base.names.now (base.words.now ++ work.old) l) (vars_of_word base.names.now (base.words.now ++ work.old) out)) }
-    ensures collects { Collects base.entry.names.now (base.entry.words.now ++ work.old) (base.entry.words.now ++ work.new) room.old.top
-        (vars_of_word base.entry.names.now (base.entry.words.now ++ work.old) out)
-        (free_types (vars_of_word base.entry.names.now (base.entry.words.now ++ work.old) vs) (list base.entry.names.now (base.entry.words.now ++ work.old) l) (vars_of_word base.entry.names.now (base.entry.words.now ++ work.old) out)) result room.new.top }
+    requires base_len_bound { length base.now.words.now ≤ 4 * room.old.top }
+    requires node { Node (base.now.words.now ++ work.old) room.old.top vs }
+    requires node_2 { Node (base.now.words.now ++ work.old) room.old.top out }
+    requires node_3 { Node (base.now.words.now ++ work.old) room.old.top l }
+    requires wants { Wants base.now.names.now (base.now.words.now ++ work.old) room.old.top (vars_of_word base.now.names.now (base.now.words.now ++ work.old) out)
+        (free_types (vars_of_word base.now.names.now (base.now.words.now ++ work.old) vs) (list base.now.names.now (base.now.words.now ++ work.old) l) (vars_of_word base.now.names.now (base.now.words.now ++ work.old) out)) }
+    ensures collects { Collects base.now.names.now (base.now.words.now ++ work.old) (base.now.words.now ++ work.new) room.old.top
+        (vars_of_word base.now.names.now (base.now.words.now ++ work.old) out)
+        (free_types (vars_of_word base.now.names.now (base.now.words.now ++ work.old) vs) (list base.now.names.now (base.now.words.now ++ work.old) l) (vars_of_word base.now.names.now (base.now.words.now ++ work.old) out)) result room.new.top }
     ensures left { room.new.left ≡ room.old.left }
 {
     let c = ast::cell_at(base, work, l);
@@ -100,44 +100,44 @@ fn free_types(
 }
 
 // `ftv_type`: the variables of the type t before those of the list out.
-pub fn ftv_type(base: Base, work: &mut [u64], room: &mut Room, out: usize, t: usize) -> usize
-    requires base_len_bound { length base.words.now ≤ 4 * room.old.top }
-    requires node { Node (base.words.now ++ work.old) room.old.top out }
-    requires node_2 { Node (base.words.now ++ work.old) room.old.top t }
-    requires wants { Wants base.names.now (base.words.now ++ work.old) room.old.top (vars_of_word base.names.now (base.words.now ++ work.old) out)
-        (ftv_type (tree base.names.now (base.words.now ++ work.old) t) (vars_of_word base.names.now (base.words.now ++ work.old) out)) }
-    ensures collects { Collects base.entry.names.now (base.entry.words.now ++ work.old) (base.entry.words.now ++ work.new) room.old.top
-        (vars_of_word base.entry.names.now (base.entry.words.now ++ work.old) out)
-        (ftv_type (tree base.entry.names.now (base.entry.words.now ++ work.old) t) (vars_of_word base.entry.names.now (base.entry.words.now ++ work.old) out)) result room.new.top }
+pub fn ftv_type(base: &Base, work: &mut [u64], room: &mut Room, out: usize, t: usize) -> usize
+    requires base_len_bound { length base.now.words.now ≤ 4 * room.old.top }
+    requires node { Node (base.now.words.now ++ work.old) room.old.top out }
+    requires node_2 { Node (base.now.words.now ++ work.old) room.old.top t }
+    requires wants { Wants base.now.names.now (base.now.words.now ++ work.old) room.old.top (vars_of_word base.now.names.now (base.now.words.now ++ work.old) out)
+        (ftv_type (tree base.now.names.now (base.now.words.now ++ work.old) t) (vars_of_word base.now.names.now (base.now.words.now ++ work.old) out)) }
+    ensures collects { Collects base.now.names.now (base.now.words.now ++ work.old) (base.now.words.now ++ work.new) room.old.top
+        (vars_of_word base.now.names.now (base.now.words.now ++ work.old) out)
+        (ftv_type (tree base.now.names.now (base.now.words.now ++ work.old) t) (vars_of_word base.now.names.now (base.now.words.now ++ work.old) out)) result room.new.top }
     ensures left { room.new.left ≡ room.old.left }
 {
     free_type(base, work, room, ast::NIL, out, t)
 }
 
 // `ftv_pred` of each predicate of the list l, before the variables of the list out. Its cells are those of a list of types.
-pub fn ftv_preds(base: Base, work: &mut [u64], room: &mut Room, out: usize, l: usize) -> usize
-    requires base_len_bound { length base.words.now ≤ 4 * room.old.top }
-    requires node { Node (base.words.now ++ work.old) room.old.top out }
-    requires node_2 { Node (base.words.now ++ work.old) room.old.top l }
-    requires wants { Wants base.names.now (base.words.now ++ work.old) room.old.top (vars_of_word base.names.now (base.words.now ++ work.old) out)
-        (ftv_preds (preds_of_word base.names.now (base.words.now ++ work.old) l) (vars_of_word base.names.now (base.words.now ++ work.old) out)) }
-    ensures collects { Collects base.entry.names.now (base.entry.words.now ++ work.old) (base.entry.words.now ++ work.new) room.old.top
-        (vars_of_word base.entry.names.now (base.entry.words.now ++ work.old) out)
-        (ftv_preds (preds_of_word base.entry.names.now (base.entry.words.now ++ work.old) l) (vars_of_word base.entry.names.now (base.entry.words.now ++ work.old) out)) result room.new.top }
+pub fn ftv_preds(base: &Base, work: &mut [u64], room: &mut Room, out: usize, l: usize) -> usize
+    requires base_len_bound { length base.now.words.now ≤ 4 * room.old.top }
+    requires node { Node (base.now.words.now ++ work.old) room.old.top out }
+    requires node_2 { Node (base.now.words.now ++ work.old) room.old.top l }
+    requires wants { Wants base.now.names.now (base.now.words.now ++ work.old) room.old.top (vars_of_word base.now.names.now (base.now.words.now ++ work.old) out)
+        (ftv_preds (preds_of_word base.now.names.now (base.now.words.now ++ work.old) l) (vars_of_word base.now.names.now (base.now.words.now ++ work.old) out)) }
+    ensures collects { Collects base.now.names.now (base.now.words.now ++ work.old) (base.now.words.now ++ work.new) room.old.top
+        (vars_of_word base.now.names.now (base.now.words.now ++ work.old) out)
+        (ftv_preds (preds_of_word base.now.names.now (base.now.words.now ++ work.old) l) (vars_of_word base.now.names.now (base.now.words.now ++ work.old) out)) result room.new.top }
     ensures left { room.new.left ≡ room.old.left }
 {
     free_types(base, work, room, ast::NIL, out, l)
 }
 
 // `ftv_scheme`: the variables of a type and of predicates that are none of the list vs.
-pub fn ftv_scheme(base: Base, work: &mut [u64], room: &mut Room, scheme: Scheme) -> usize
-    requires base_len_bound { length base.words.now ≤ 4 * room.old.top }
-    requires node { Node (base.words.now ++ work.old) room.old.top scheme.vars }
-    requires node_2 { Node (base.words.now ++ work.old) room.old.top scheme.preds }
-    requires node_3 { Node (base.words.now ++ work.old) room.old.top scheme.ty }
-    requires wants { Wants base.names.now (base.words.now ++ work.old) room.old.top [] (ftv_scheme (scheme_of_word base.names.now (base.words.now ++ work.old) scheme.vars scheme.preds scheme.ty)) }
-    ensures collects { Collects base.entry.names.now (base.entry.words.now ++ work.old) (base.entry.words.now ++ work.new) room.old.top
-        [] (ftv_scheme (scheme_of_word base.entry.names.now (base.entry.words.now ++ work.old) scheme.vars scheme.preds scheme.ty)) result room.new.top }
+pub fn ftv_scheme(base: &Base, work: &mut [u64], room: &mut Room, scheme: Scheme) -> usize
+    requires base_len_bound { length base.now.words.now ≤ 4 * room.old.top }
+    requires node { Node (base.now.words.now ++ work.old) room.old.top scheme.vars }
+    requires node_2 { Node (base.now.words.now ++ work.old) room.old.top scheme.preds }
+    requires node_3 { Node (base.now.words.now ++ work.old) room.old.top scheme.ty }
+    requires wants { Wants base.now.names.now (base.now.words.now ++ work.old) room.old.top [] (ftv_scheme (scheme_of_word base.now.names.now (base.now.words.now ++ work.old) scheme.vars scheme.preds scheme.ty)) }
+    ensures collects { Collects base.now.names.now (base.now.words.now ++ work.old) (base.now.words.now ++ work.new) room.old.top
+        [] (ftv_scheme (scheme_of_word base.now.names.now (base.now.words.now ++ work.old) scheme.vars scheme.preds scheme.ty)) result room.new.top }
     ensures left { room.new.left ≡ room.old.left }
 {
     let r = free_type(base, work, room, scheme.vars, ast::NIL, scheme.ty);
@@ -145,13 +145,13 @@ pub fn ftv_scheme(base: Base, work: &mut [u64], room: &mut Room, scheme: Scheme)
 }
 
 // `ftv_qual`: the variables of a type and of predicates.
-pub fn ftv_qual(base: Base, work: &mut [u64], room: &mut Room, preds: usize, t: usize) -> usize
-    requires base_len_bound { length base.words.now ≤ 4 * room.old.top }
-    requires node { Node (base.words.now ++ work.old) room.old.top preds }
-    requires node_2 { Node (base.words.now ++ work.old) room.old.top t }
-    requires wants { Wants base.names.now (base.words.now ++ work.old) room.old.top [] (ftv_qual (qual (preds_of_word base.names.now (base.words.now ++ work.old) preds) (tree base.names.now (base.words.now ++ work.old) t))) }
-    ensures collects { Collects base.entry.names.now (base.entry.words.now ++ work.old) (base.entry.words.now ++ work.new) room.old.top
-        [] (ftv_qual (qual (preds_of_word base.entry.names.now (base.entry.words.now ++ work.old) preds) (tree base.entry.names.now (base.entry.words.now ++ work.old) t))) result room.new.top }
+pub fn ftv_qual(base: &Base, work: &mut [u64], room: &mut Room, preds: usize, t: usize) -> usize
+    requires base_len_bound { length base.now.words.now ≤ 4 * room.old.top }
+    requires node { Node (base.now.words.now ++ work.old) room.old.top preds }
+    requires node_2 { Node (base.now.words.now ++ work.old) room.old.top t }
+    requires wants { Wants base.now.names.now (base.now.words.now ++ work.old) room.old.top [] (ftv_qual (qual (preds_of_word base.now.names.now (base.now.words.now ++ work.old) preds) (tree base.now.names.now (base.now.words.now ++ work.old) t))) }
+    ensures collects { Collects base.now.names.now (base.now.words.now ++ work.old) (base.now.words.now ++ work.new) room.old.top
+        [] (ftv_qual (qual (preds_of_word base.now.names.now (base.now.words.now ++ work.old) preds) (tree base.now.names.now (base.now.words.now ++ work.old) t))) result room.new.top }
     ensures left { room.new.left ≡ room.old.left }
 {
     let scheme = Scheme {

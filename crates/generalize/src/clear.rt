@@ -16,11 +16,11 @@ use scope::Env;
 use supers::rows::Row;
 
 // Whether neither the type t nor the environment has the variable of word x.
-fn is_lost(base: Base, work: &[u64], env: Env, top: usize, t: usize, x: usize) -> bool
-    requires { ReadyType base.names.now (base.words.now ++ work.now) env.rows.now env.order.now top t }
-    ensures { result ≡ strays (ftv_type (tree base.entry.names.now (base.entry.words.now ++ work.now) t) [])
-        (env_ftv (env_of base.entry.names.now (base.entry.words.now ++ work.now) env.entry.rows.now env.entry.order.now))
-        (var (tyvar_of base.entry.names.now x)) }
+fn is_lost(base: &Base, work: &[u64], env: Env, top: usize, t: usize, x: usize) -> bool
+    requires { ReadyType base.now.names.now (base.now.words.now ++ work.now) env.rows.now env.order.now top t }
+    ensures { result ≡ strays (ftv_type (tree base.now.names.now (base.now.words.now ++ work.now) t) [])
+        (env_ftv (env_of base.now.names.now (base.now.words.now ++ work.now) env.entry.rows.now env.entry.order.now))
+        (var (tyvar_of base.now.names.now x)) }
 {
     if ast::occurs_in(base, work, top, x, t) {
         return false;
@@ -31,7 +31,7 @@ fn is_lost(base: Base, work: &[u64], env: Env, top: usize, t: usize, x: usize) -
 
 // Whether row i is pending at a variable that neither the type t nor the environment has.
 fn is_stray(
-    base: Base,
+    base: &Base,
     work: &[u64],
     env: Env,
     binders: &[u64],
@@ -40,11 +40,11 @@ fn is_stray(
     t: usize,
     i: usize,
 ) -> bool
-    requires ready_rows { ReadyRows base.names.now (base.words.now ++ work.now) env.rows.now env.order.now binders.now top n t }
+    requires ready_rows { ReadyRows base.now.names.now (base.now.words.now ++ work.now) env.rows.now env.order.now binders.now top n t }
     requires i_lt_n { i < n }
-    ensures { result ≡ stray_row (ftv_type (tree base.entry.names.now (base.entry.words.now ++ work.now) t) [])
-        (env_ftv (env_of base.entry.names.now (base.entry.words.now ++ work.now) env.entry.rows.now env.entry.order.now))
-        base.entry.names.now (base.entry.words.now ++ work.now) (row_at binders.now i) }
+    ensures { result ≡ stray_row (ftv_type (tree base.now.names.now (base.now.words.now ++ work.now) t) [])
+        (env_ftv (env_of base.now.names.now (base.now.words.now ++ work.now) env.entry.rows.now env.entry.order.now))
+        base.now.names.now (base.now.words.now ++ work.now) (row_at binders.now i) }
 {
     let q = supers::rows::row_at(binders, i);
     let Row::Pending(_, _, u) = q else {
@@ -72,7 +72,7 @@ fn refuse_row(binders: &[u64], i: usize) -> Result<(), Refusal>
 
 // Refuses the first pending one of the first n rows at a variable that neither the type t nor the environment has.
 pub fn ambiguous(
-    base: Base,
+    base: &Base,
     work: &[u64],
     env: Env,
     binders: &[u64],
@@ -80,11 +80,11 @@ pub fn ambiguous(
     n: usize,
     t: usize,
 ) -> Result<(), Refusal>
-    requires { ReadyRows base.names.now (base.words.now ++ work.now) env.rows.now env.order.now binders.now top n t }
-    ensures { Tests (ftv_type (tree base.entry.names.now (base.entry.words.now ++ work.now) t) [])
-        (env_ftv (env_of base.entry.names.now (base.entry.words.now ++ work.now) env.entry.rows.now env.entry.order.now))
-        base.entry.names.now (base.entry.words.now ++ work.now) top
-        (preds_of (binders_in base.entry.names.now (base.entry.words.now ++ work.now) binders.now 0 n)) result }
+    requires { ReadyRows base.now.names.now (base.now.words.now ++ work.now) env.rows.now env.order.now binders.now top n t }
+    ensures { Tests (ftv_type (tree base.now.names.now (base.now.words.now ++ work.now) t) [])
+        (env_ftv (env_of base.now.names.now (base.now.words.now ++ work.now) env.entry.rows.now env.entry.order.now))
+        base.now.names.now (base.now.words.now ++ work.now) top
+        (preds_of (binders_in base.now.names.now (base.now.words.now ++ work.now) binders.now 0 n)) result }
 {
     for i in 0..n {
         if is_stray(base, work, env, binders, top, n, t, i) {

@@ -37,7 +37,7 @@ pub struct Final {
 
 // The rows of one's own are tested, and then the type t, these rows and the term e get canonical names.
 fn conclude(
-    base: Base,
+    base: &Base,
     work: &mut [u64],
     room: &mut Room,
     env: Env,
@@ -47,10 +47,10 @@ fn conclude(
     t: usize,
     e: usize,
 ) -> Result<Naming, Refusal>
-    requires base_len_bound { length base.words.now ≤ 4 * room.old.top }
-    requires ready_names { ReadyNames base.names.now (base.words.now ++ work.old) env.rows.now env.order.now binders.old room.old.top room.old.left sp n t }
-    requires node { Node (base.words.now ++ work.old) room.old.top e }
-    ensures { GivesConcluded base.entry.names.now (base.entry.words.now ++ work.old) (base.entry.words.now ++ work.new) env.entry.rows.now env.entry.order.now
+    requires base_len_bound { length base.now.words.now ≤ 4 * room.old.top }
+    requires ready_names { ReadyNames base.now.names.now (base.now.words.now ++ work.old) env.rows.now env.order.now binders.old room.old.top room.old.left sp n t }
+    requires node { Node (base.now.words.now ++ work.old) room.old.top e }
+    ensures { GivesConcluded base.now.names.now (base.now.words.now ++ work.old) (base.now.words.now ++ work.new) env.entry.rows.now env.entry.order.now
         binders.old room.old.top room.old.left sp n t e (named_of result room.new.top room.new.left) }
 {
     clear::ambiguous(base, work, env, binders, room.top, n, t)?;
@@ -59,7 +59,7 @@ fn conclude(
 
 // The same of the rows from number nd up to number n.
 fn conclude_from(
-    base: Base,
+    base: &Base,
     work: &mut [u64],
     room: &mut Room,
     env: Env,
@@ -72,10 +72,10 @@ fn conclude_from(
 ) -> Result<Naming, Refusal>
     requires nd_le_n { nd ≤ n }
     requires n_in_bounds { 3 * n ≤ length binders.old }
-    requires base_len_bound { length base.words.now ≤ 4 * room.old.top }
-    requires ready_from { ReadyFrom base.names.now (base.words.now ++ work.old) env.rows.now env.order.now binders.old room.old.top room.old.left sp nd n t }
-    requires node { Node (base.words.now ++ work.old) room.old.top e }
-    ensures { GivesFrom base.entry.names.now (base.entry.words.now ++ work.old) (base.entry.words.now ++ work.new) env.entry.rows.now env.entry.order.now
+    requires base_len_bound { length base.now.words.now ≤ 4 * room.old.top }
+    requires ready_from { ReadyFrom base.now.names.now (base.now.words.now ++ work.old) env.rows.now env.order.now binders.old room.old.top room.old.left sp nd n t }
+    requires node { Node (base.now.words.now ++ work.old) room.old.top e }
+    ensures { GivesFrom base.now.names.now (base.now.words.now ++ work.old) (base.now.words.now ++ work.new) env.entry.rows.now env.entry.order.now
         binders.old binders.new room.old.top room.old.left sp nd n t e (named_of result room.new.top room.new.left) }
 {
     let from = 3 * nd;
@@ -85,7 +85,7 @@ fn conclude_from(
 
 // `generalize_binding` of the type t, the first n rows, all pending, and the term e. The deferred rows come to the front.
 pub fn generalize(
-    base: Base,
+    base: &Base,
     work: &mut [u64],
     room: &mut Room,
     rules: Rules,
@@ -96,9 +96,9 @@ pub fn generalize(
     t: usize,
     e: usize,
 ) -> Result<General, Refusal>
-    requires base_len_bound { length base.words.now ≤ 4 * room.old.top }
-    requires ready_generalize { ReadyGeneralize base.names.now (base.words.now ++ work.old) rules.insts.now env.rows.now env.order.now binders.old room.old.top room.old.left sp n t e }
-    ensures { GivesGeneralized base.entry.names.now rules.entry.classes.now (base.entry.words.now ++ work.old) (base.entry.words.now ++ work.new)
+    requires base_len_bound { length base.now.words.now ≤ 4 * room.old.top }
+    requires ready_generalize { ReadyGeneralize base.now.names.now (base.now.words.now ++ work.old) rules.insts.now env.rows.now env.order.now binders.old room.old.top room.old.left sp n t e }
+    ensures { GivesGeneralized base.now.names.now rules.entry.classes.now (base.now.words.now ++ work.old) (base.now.words.now ++ work.new)
         rules.entry.insts.now env.entry.rows.now env.entry.order.now binders.old binders.new room.old.top room.old.left sp n t e (generalized_of result room.new.top room.new.left) }
 {
     let r = settle::settle(base, work, room, rules, env, binders, sp, n, t, e)?;
@@ -112,7 +112,7 @@ pub fn generalize(
 
 // Canonical names of the rows from number nd up to number n, the type t and the term e.
 fn name_from(
-    base: Base,
+    base: &Base,
     work: &mut [u64],
     room: &mut Room,
     env: Env,
@@ -125,10 +125,10 @@ fn name_from(
 ) -> Result<Naming, Refusal>
     requires nd_le_n { nd ≤ n }
     requires n_in_bounds { 3 * n ≤ length binders.old }
-    requires base_len_bound { length base.words.now ≤ 4 * room.old.top }
-    requires ready_from { ReadyFrom base.names.now (base.words.now ++ work.old) env.rows.now env.order.now binders.old room.old.top room.old.left sp nd n t }
-    requires node { Node (base.words.now ++ work.old) room.old.top e }
-    ensures { GivesNamesFrom base.entry.names.now (base.entry.words.now ++ work.old) (base.entry.words.now ++ work.new) env.entry.rows.now env.entry.order.now
+    requires base_len_bound { length base.now.words.now ≤ 4 * room.old.top }
+    requires ready_from { ReadyFrom base.now.names.now (base.now.words.now ++ work.old) env.rows.now env.order.now binders.old room.old.top room.old.left sp nd n t }
+    requires node { Node (base.now.words.now ++ work.old) room.old.top e }
+    ensures { GivesNamesFrom base.now.names.now (base.now.words.now ++ work.old) (base.now.words.now ++ work.new) env.entry.rows.now env.entry.order.now
         binders.old room.old.top room.old.left sp nd n t e (named_of result room.new.top room.new.left) }
 {
     let from = 3 * nd;
@@ -138,7 +138,7 @@ fn name_from(
 
 // `finalize_expr` of the type t, the first n rows, all pending, and the term e: there is no environment.
 pub fn finalize(
-    base: Base,
+    base: &Base,
     work: &mut [u64],
     room: &mut Room,
     rules: Rules,
@@ -148,9 +148,9 @@ pub fn finalize(
     t: usize,
     e: usize,
 ) -> Result<Final, Refusal>
-    requires base_len_bound { length base.words.now ≤ 4 * room.old.top }
-    requires ready_generalize { ReadyGeneralize base.names.now (base.words.now ++ work.old) rules.insts.now [] [] binders.old room.old.top room.old.left sp n t e }
-    ensures { GivesFinalized base.entry.names.now rules.entry.classes.now (base.entry.words.now ++ work.old) (base.entry.words.now ++ work.new)
+    requires base_len_bound { length base.now.words.now ≤ 4 * room.old.top }
+    requires ready_generalize { ReadyGeneralize base.now.names.now (base.now.words.now ++ work.old) rules.insts.now [] [] binders.old room.old.top room.old.left sp n t e }
+    ensures { GivesFinalized base.now.names.now rules.entry.classes.now (base.now.words.now ++ work.old) (base.now.words.now ++ work.new)
         rules.entry.insts.now binders.old binders.new room.old.top room.old.left sp n t e (finalized_of result room.new.top room.new.left) }
 {
     let empty = Env {

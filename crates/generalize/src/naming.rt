@@ -21,7 +21,7 @@ pub struct Naming {
 
 // The predicates of the first n rows and the type t, where the words of `letters` become letters.
 fn name_qual(
-    base: Base,
+    base: &Base,
     work: &mut [u64],
     room: &mut Room,
     letters: &[u64],
@@ -30,9 +30,9 @@ fn name_qual(
     n: usize,
     t: usize,
 ) -> Result<Qual, Refusal>
-    requires base_len_bound { length base.words.now ≤ 4 * room.old.top }
-    requires ready_letters { ReadyLetters base.names.now (base.words.now ++ work.old) letters.now binders.old room.old.top room.old.left sp n t }
-    ensures { GivesLettered base.entry.names.now (base.entry.words.now ++ work.old) (base.entry.words.now ++ work.new) letters.now
+    requires base_len_bound { length base.now.words.now ≤ 4 * room.old.top }
+    requires ready_letters { ReadyLetters base.now.names.now (base.now.words.now ++ work.old) letters.now binders.old room.old.top room.old.left sp n t }
+    ensures { GivesLettered base.now.names.now (base.now.words.now ++ work.old) (base.now.words.now ++ work.new) letters.now
         binders.old binders.new room.old.top room.old.left sp n t (qual_of result room.new.top room.new.left) }
 {
     let preds = canonical::renamed::rename_rows(base, work, room, letters, binders, n)?;
@@ -43,7 +43,7 @@ fn name_qual(
 // The same with the list of the scheme's variables, and then the term e over the rows; `letters` are the words that get the
 // letters.
 fn name_rest(
-    base: Base,
+    base: &Base,
     work: &mut [u64],
     room: &mut Room,
     env: Env,
@@ -54,12 +54,12 @@ fn name_rest(
     t: usize,
     e: usize,
 ) -> Result<Naming, Refusal>
-    requires base_len_bound { length base.words.now ≤ 4 * room.old.top }
-    requires ready_names { ReadyNames base.names.now (base.words.now ++ work.old) env.rows.now env.order.now binders.old room.old.top room.old.left sp n t }
-    requires node { Node (base.words.now ++ work.old) room.old.top e }
-    requires chosen { Chosen base.names.now (base.words.now ++ work.old) letters.now (rows_qual base.names.now (base.words.now ++ work.old) binders.old n t)
-        (env_of base.names.now (base.words.now ++ work.old) env.rows.now env.order.now) }
-    ensures { GivesNames base.entry.names.now (base.entry.words.now ++ work.old) (base.entry.words.now ++ work.new) env.entry.rows.now env.entry.order.now
+    requires base_len_bound { length base.now.words.now ≤ 4 * room.old.top }
+    requires ready_names { ReadyNames base.now.names.now (base.now.words.now ++ work.old) env.rows.now env.order.now binders.old room.old.top room.old.left sp n t }
+    requires node { Node (base.now.words.now ++ work.old) room.old.top e }
+    requires chosen { Chosen base.now.names.now (base.now.words.now ++ work.old) letters.now (rows_qual base.now.names.now (base.now.words.now ++ work.old) binders.old n t)
+        (env_of base.now.names.now (base.now.words.now ++ work.old) env.rows.now env.order.now) }
+    ensures { GivesNames base.now.names.now (base.now.words.now ++ work.old) (base.now.words.now ++ work.new) env.entry.rows.now env.entry.order.now
         binders.old room.old.top room.old.left sp n t e (named_of result room.new.top room.new.left) }
 {
     let q = name_qual(base, work, room, letters, binders, sp, n, t)?;
@@ -77,7 +77,7 @@ fn name_rest(
 
 // All of it; `letters` has room for 26 words.
 fn name_with(
-    base: Base,
+    base: &Base,
     work: &mut [u64],
     room: &mut Room,
     env: Env,
@@ -88,11 +88,11 @@ fn name_with(
     t: usize,
     e: usize,
 ) -> Result<Naming, Refusal>
-    requires base_len_bound { length base.words.now ≤ 4 * room.old.top }
-    requires ready_names { ReadyNames base.names.now (base.words.now ++ work.old) env.rows.now env.order.now binders.old room.old.top room.old.left sp n t }
-    requires node { Node (base.words.now ++ work.old) room.old.top e }
+    requires base_len_bound { length base.now.words.now ≤ 4 * room.old.top }
+    requires ready_names { ReadyNames base.now.names.now (base.now.words.now ++ work.old) env.rows.now env.order.now binders.old room.old.top room.old.left sp n t }
+    requires node { Node (base.now.words.now ++ work.old) room.old.top e }
     requires in_bounds { 26 ≤ length letters.old }
-    ensures { GivesNames base.entry.names.now (base.entry.words.now ++ work.old) (base.entry.words.now ++ work.new) env.entry.rows.now env.entry.order.now
+    ensures { GivesNames base.now.names.now (base.now.words.now ++ work.old) (base.now.words.now ++ work.new) env.entry.rows.now env.entry.order.now
         binders.old room.old.top room.old.left sp n t e (named_of result room.new.top room.new.left) }
 {
     let k = canonical::letters(base, work, env, binders, letters, room.top, n, t);
@@ -101,7 +101,7 @@ fn name_with(
 
 // `canonical_scheme_and_core` of the type t under the predicates of the first n rows, and of the term e over these rows.
 pub fn name_all(
-    base: Base,
+    base: &Base,
     work: &mut [u64],
     room: &mut Room,
     env: Env,
@@ -111,10 +111,10 @@ pub fn name_all(
     t: usize,
     e: usize,
 ) -> Result<Naming, Refusal>
-    requires base_len_bound { length base.words.now ≤ 4 * room.old.top }
-    requires ready_names { ReadyNames base.names.now (base.words.now ++ work.old) env.rows.now env.order.now binders.old room.old.top room.old.left sp n t }
-    requires node { Node (base.words.now ++ work.old) room.old.top e }
-    ensures { GivesNames base.entry.names.now (base.entry.words.now ++ work.old) (base.entry.words.now ++ work.new) env.entry.rows.now env.entry.order.now
+    requires base_len_bound { length base.now.words.now ≤ 4 * room.old.top }
+    requires ready_names { ReadyNames base.now.names.now (base.now.words.now ++ work.old) env.rows.now env.order.now binders.old room.old.top room.old.left sp n t }
+    requires node { Node (base.now.words.now ++ work.old) room.old.top e }
+    ensures { GivesNames base.now.names.now (base.now.words.now ++ work.old) (base.now.words.now ++ work.new) env.entry.rows.now env.entry.order.now
         binders.old room.old.top room.old.left sp n t e (named_of result room.new.top room.new.left) }
 {
     let mut letters: [u64; 26] = [0; 26];

@@ -21,7 +21,7 @@ use views::File;
 // `infer_app`: the function first.
 #[cycle(app_app_arg_abs_abs_rest_infer_let_body_let_rest_binding_let_mid_onward)]
 pub fn app(
-    base: Base,
+    base: &Base,
     work: &mut [u64],
     room: &mut Room,
     file: File,
@@ -36,9 +36,9 @@ pub fn app(
     f: usize,
     x: usize,
 ) -> Result<Typed, Refusal>
-    requires base_len_bound { length base.words.now ≤ 4 * room.old.top }
-    requires ready_i { ReadyI 8 1 1 base.names.now (base.words.now ++ work.old) env.old order.now rules.insts.now binders.old room.old.top room.old.left sp fresh.tv fresh.dv }
-    ensures { GivesI (AskedTwo file.entry.src.now base.entry.names.now file.entry.index.now (base.entry.words.now ++ work.old) rules.entry.classes.now methods.now rules.entry.insts.now env.old order.now room.old.top f x) (λ p. inferred_then (infer_in depth p.0 p.1) (λ r. app_arg (λ u. infer_in depth p.0 u) (tyvar_of base.entry.names.now (first_fresh + fresh.tv)) r p.2) (state_of base.entry.names.now (base.entry.words.now ++ work.old) env.old order.now (fresh.tv + 1) fresh.dv) room.old.left) 8 1 1 base.entry.names.now (base.entry.words.now ++ work.old) (base.entry.words.now ++ work.new)
+    requires base_len_bound { length base.now.words.now ≤ 4 * room.old.top }
+    requires ready_i { ReadyI 8 1 1 base.now.names.now (base.now.words.now ++ work.old) env.old order.now rules.insts.now binders.old room.old.top room.old.left sp fresh.tv fresh.dv }
+    ensures { GivesI (AskedTwo file.entry.src.now base.now.names.now file.entry.index.now (base.now.words.now ++ work.old) rules.entry.classes.now methods.now rules.entry.insts.now env.old order.now room.old.top f x) (λ p. inferred_then (infer_in depth p.0 p.1) (λ r. app_arg (λ u. infer_in depth p.0 u) (tyvar_of base.now.names.now (first_fresh + fresh.tv)) r p.2) (state_of base.now.names.now (base.now.words.now ++ work.old) env.old order.now (fresh.tv + 1) fresh.dv) room.old.left) 8 1 1 base.now.names.now (base.now.words.now ++ work.old) (base.now.words.now ++ work.new)
         env.new order.now binders.old binders.new room.old.top room.old.left sp fresh.tv fresh.dv (inferred_of result room.new.top room.new.left) }
 {
     let a = names::FRESH + fresh.tv;
@@ -59,7 +59,7 @@ pub fn app(
 // The function's pairs are applied to the environment; then the argument, whose rows follow the function's.
 #[cycle(app_app_arg_abs_abs_rest_infer_let_body_let_rest_binding_let_mid_onward)]
 fn app_arg(
-    base: Base,
+    base: &Base,
     work: &mut [u64],
     room: &mut Room,
     file: File,
@@ -75,9 +75,9 @@ fn app_arg(
     function: Typed,
     x: usize,
 ) -> Result<Typed, Refusal>
-    requires base_len_bound { length base.words.now ≤ 4 * room.old.top }
-    requires ready_arg { ReadyArg base.names.now (base.words.now ++ work.old) env.old order.now rules.insts.now binders.old room.old.top room.old.left sp fresh.tv fresh.dv function.ty function.term function.pairs function.rows a }
-    ensures { GivesI (AskedAfter file.entry.src.now base.entry.names.now file.entry.index.now (base.entry.words.now ++ work.old) rules.entry.classes.now methods.now rules.entry.insts.now env.old order.now room.old.top x (sub_at base.entry.names.now (base.entry.words.now ++ work.old) (sp - 2 * function.pairs) function.pairs)) (λ p. app_arg (λ u. infer_in depth p.0 u) (tyvar_of base.entry.names.now a) (answer_of base.entry.names.now (base.entry.words.now ++ work.old) binders.old sp function.ty function.term function.pairs function.rows) p.1 (state_of base.entry.names.now (base.entry.words.now ++ work.old) env.old order.now fresh.tv fresh.dv) room.old.left) (2 * function.pairs + 8) 0 function.rows base.entry.names.now (base.entry.words.now ++ work.old) (base.entry.words.now ++ work.new)
+    requires base_len_bound { length base.now.words.now ≤ 4 * room.old.top }
+    requires ready_arg { ReadyArg base.now.names.now (base.now.words.now ++ work.old) env.old order.now rules.insts.now binders.old room.old.top room.old.left sp fresh.tv fresh.dv function.ty function.term function.pairs function.rows a }
+    ensures { GivesI (AskedAfter file.entry.src.now base.now.names.now file.entry.index.now (base.now.words.now ++ work.old) rules.entry.classes.now methods.now rules.entry.insts.now env.old order.now room.old.top x (sub_at base.now.names.now (base.now.words.now ++ work.old) (sp - 2 * function.pairs) function.pairs)) (λ p. app_arg (λ u. infer_in depth p.0 u) (tyvar_of base.now.names.now a) (answer_of base.now.names.now (base.now.words.now ++ work.old) binders.old sp function.ty function.term function.pairs function.rows) p.1 (state_of base.now.names.now (base.now.words.now ++ work.old) env.old order.now fresh.tv fresh.dv) room.old.left) (2 * function.pairs + 8) 0 function.rows base.now.names.now (base.now.words.now ++ work.old) (base.now.words.now ++ work.new)
         env.new order.now binders.old binders.new room.old.top room.old.left sp fresh.tv fresh.dv (inferred_of result room.new.top room.new.left) }
 {
     let k = function.pairs;
@@ -119,7 +119,7 @@ fn app_arg(
 
 // The end of an application: the argument's rows are all that are pending.
 fn app_end(
-    base: Base,
+    base: &Base,
     work: &mut [u64],
     room: &mut Room,
     env: Env,
@@ -130,9 +130,9 @@ fn app_end(
     function: Typed,
     argument: Typed,
 ) -> Result<Typed, Refusal>
-    requires base_len_bound { length base.words.now ≤ 4 * room.old.top }
-    requires ready_app_end { ReadyAppEnd base.names.now (base.words.now ++ work.old) env.rows.now env.order.now binders.old room.old.top room.old.left sp function.ty function.term function.pairs argument.ty argument.term argument.pairs function.rows argument.rows a }
-    ensures { GivesI Nothing (λ _. closed_app (tyvar_of base.entry.names.now a) (answer_of base.entry.names.now (base.entry.words.now ++ work.old) binders.old sp function.ty function.term function.pairs function.rows) (answer_from base.entry.names.now (base.entry.words.now ++ work.old) binders.old (sp - 2 * function.pairs) argument.ty argument.term argument.pairs function.rows argument.rows) (state_of base.entry.names.now (base.entry.words.now ++ work.old) env.entry.rows.now env.entry.order.now fresh.tv fresh.dv) room.old.left) (2 * function.pairs + 2 * argument.pairs + 8) 0 argument.rows base.entry.names.now (base.entry.words.now ++ work.old) (base.entry.words.now ++ work.new)
+    requires base_len_bound { length base.now.words.now ≤ 4 * room.old.top }
+    requires ready_app_end { ReadyAppEnd base.now.names.now (base.now.words.now ++ work.old) env.rows.now env.order.now binders.old room.old.top room.old.left sp function.ty function.term function.pairs argument.ty argument.term argument.pairs function.rows argument.rows a }
+    ensures { GivesI Nothing (λ _. closed_app (tyvar_of base.now.names.now a) (answer_of base.now.names.now (base.now.words.now ++ work.old) binders.old sp function.ty function.term function.pairs function.rows) (answer_from base.now.names.now (base.now.words.now ++ work.old) binders.old (sp - 2 * function.pairs) argument.ty argument.term argument.pairs function.rows argument.rows) (state_of base.now.names.now (base.now.words.now ++ work.old) env.entry.rows.now env.entry.order.now fresh.tv fresh.dv) room.old.left) (2 * function.pairs + 2 * argument.pairs + 8) 0 argument.rows base.now.names.now (base.now.words.now ++ work.old) (base.now.words.now ++ work.new)
         env.entry.rows.now env.entry.order.now binders.old binders.new room.old.top room.old.left sp fresh.tv fresh.dv (inferred_of result room.new.top room.new.left) }
 {
     let c = inferred::app_close(base, work, room, binders, sp, a, function, argument)?;

@@ -21,7 +21,7 @@ use views::File;
 // `infer_abs`: the parameter has a row of its own while the body is inferred.
 #[cycle(app_app_arg_abs_abs_rest_infer_let_body_let_rest_binding_let_mid_onward)]
 pub fn abs(
-    base: Base,
+    base: &Base,
     work: &mut [u64],
     room: &mut Room,
     file: File,
@@ -36,9 +36,9 @@ pub fn abs(
     r: usize,
     b: usize,
 ) -> Result<Typed, Refusal>
-    requires base_len_bound { length base.words.now ≤ 4 * room.old.top }
-    requires ready_i { ReadyI 8 1 1 base.names.now (base.words.now ++ work.old) env.old order.now rules.insts.now binders.old room.old.top room.old.left sp fresh.tv fresh.dv }
-    ensures { GivesI (AskedNamed file.entry.src.now base.entry.names.now file.entry.index.now (base.entry.words.now ++ work.old) rules.entry.classes.now methods.now rules.entry.insts.now env.old order.now room.old.top r b) (λ p. abs_body (λ u. infer_in depth p.0 u) (name_of base.entry.names.now r) (tyvar_of base.entry.names.now (first_fresh + fresh.tv)) p.1 (state_of base.entry.names.now (base.entry.words.now ++ work.old) env.old order.now (fresh.tv + 1) fresh.dv) room.old.left) 8 1 1 base.entry.names.now (base.entry.words.now ++ work.old) (base.entry.words.now ++ work.new)
+    requires base_len_bound { length base.now.words.now ≤ 4 * room.old.top }
+    requires ready_i { ReadyI 8 1 1 base.now.names.now (base.now.words.now ++ work.old) env.old order.now rules.insts.now binders.old room.old.top room.old.left sp fresh.tv fresh.dv }
+    ensures { GivesI (AskedNamed file.entry.src.now base.now.names.now file.entry.index.now (base.now.words.now ++ work.old) rules.entry.classes.now methods.now rules.entry.insts.now env.old order.now room.old.top r b) (λ p. abs_body (λ u. infer_in depth p.0 u) (name_of base.now.names.now r) (tyvar_of base.now.names.now (first_fresh + fresh.tv)) p.1 (state_of base.now.names.now (base.now.words.now ++ work.old) env.old order.now (fresh.tv + 1) fresh.dv) room.old.left) 8 1 1 base.now.names.now (base.now.words.now ++ work.old) (base.now.words.now ++ work.new)
         env.new order.now binders.old binders.new room.old.top room.old.left sp fresh.tv fresh.dv (inferred_of result room.new.top room.new.left) }
 {
     if r >= order.len() {
@@ -64,7 +64,7 @@ pub fn abs(
 // The body, and then the row as it was.
 #[cycle(app_app_arg_abs_abs_rest_infer_let_body_let_rest_binding_let_mid_onward)]
 fn abs_rest(
-    base: Base,
+    base: &Base,
     work: &mut [u64],
     room: &mut Room,
     file: File,
@@ -81,11 +81,11 @@ fn abs_rest(
     old: Entry,
     b: usize,
 ) -> Result<Typed, Refusal>
-    requires base_len_bound { length base.words.now ≤ 4 * room.old.top }
-    requires ready_i { ReadyI 8 0 1 base.names.now (base.words.now ++ work.old) env.old order.now rules.insts.now binders.old room.old.top room.old.left sp fresh.tv fresh.dv }
-    requires hidden { Hidden base.names.now (base.words.now ++ work.old) order.now room.old.top r old }
+    requires base_len_bound { length base.now.words.now ≤ 4 * room.old.top }
+    requires ready_i { ReadyI 8 0 1 base.now.names.now (base.now.words.now ++ work.old) env.old order.now rules.insts.now binders.old room.old.top room.old.left sp fresh.tv fresh.dv }
+    requires hidden { Hidden base.now.names.now (base.now.words.now ++ work.old) order.now room.old.top r old }
     requires a_lt_first_nullary { a < first_nullary }
-    ensures { GivesI (Asked file.entry.src.now base.entry.names.now file.entry.index.now (base.entry.words.now ++ work.old) rules.entry.classes.now methods.now rules.entry.insts.now env.old order.now room.old.top b) (λ p. abs_rest (λ u. infer_in depth p.0 u) (name_of base.entry.names.now r) (tyvar_of base.entry.names.now a) (scheme_in base.entry.names.now (base.entry.words.now ++ work.old) old) p.1 (state_of base.entry.names.now (base.entry.words.now ++ work.old) env.old order.now fresh.tv fresh.dv) room.old.left) 8 0 1 base.entry.names.now (base.entry.words.now ++ work.old) (base.entry.words.now ++ work.new)
+    ensures { GivesI (Asked file.entry.src.now base.now.names.now file.entry.index.now (base.now.words.now ++ work.old) rules.entry.classes.now methods.now rules.entry.insts.now env.old order.now room.old.top b) (λ p. abs_rest (λ u. infer_in depth p.0 u) (name_of base.now.names.now r) (tyvar_of base.now.names.now a) (scheme_in base.now.names.now (base.now.words.now ++ work.old) old) p.1 (state_of base.now.names.now (base.now.words.now ++ work.old) env.old order.now fresh.tv fresh.dv) room.old.left) 8 0 1 base.now.names.now (base.now.words.now ++ work.old) (base.now.words.now ++ work.new)
         env.new order.now binders.old binders.new room.old.top room.old.left sp fresh.tv fresh.dv (inferred_of result room.new.top room.new.left) }
 {
     let body = crate::infer(
@@ -98,7 +98,7 @@ fn abs_rest(
 
 // The end of an abstraction: the hidden row is put back, and nothing was applied to it.
 fn abs_end(
-    base: Base,
+    base: &Base,
     work: &mut [u64],
     room: &mut Room,
     order: &[u64],
@@ -111,9 +111,9 @@ fn abs_end(
     old: Entry,
     body: Typed,
 ) -> Result<Typed, Refusal>
-    requires base_len_bound { length base.words.now ≤ 4 * room.old.top }
-    requires ready_abs_end { ReadyAbsEnd base.names.now (base.words.now ++ work.old) env.old order.now binders.now room.old.top room.old.left sp body.ty body.term body.pairs body.rows a r old }
-    ensures { GivesI Nothing (λ _. restored_abs (name_of base.entry.names.now r) (tyvar_of base.entry.names.now a) (scheme_in base.entry.names.now (base.entry.words.now ++ work.old) old) (answer_of base.entry.names.now (base.entry.words.now ++ work.old) binders.now sp body.ty body.term body.pairs body.rows) (state_of base.entry.names.now (base.entry.words.now ++ work.old) env.old order.now fresh.tv fresh.dv) room.old.left) (2 * body.pairs + 8) 0 body.rows base.entry.names.now (base.entry.words.now ++ work.old) (base.entry.words.now ++ work.new)
+    requires base_len_bound { length base.now.words.now ≤ 4 * room.old.top }
+    requires ready_abs_end { ReadyAbsEnd base.now.names.now (base.now.words.now ++ work.old) env.old order.now binders.now room.old.top room.old.left sp body.ty body.term body.pairs body.rows a r old }
+    ensures { GivesI Nothing (λ _. restored_abs (name_of base.now.names.now r) (tyvar_of base.now.names.now a) (scheme_in base.now.names.now (base.now.words.now ++ work.old) old) (answer_of base.now.names.now (base.now.words.now ++ work.old) binders.now sp body.ty body.term body.pairs body.rows) (state_of base.now.names.now (base.now.words.now ++ work.old) env.old order.now fresh.tv fresh.dv) room.old.left) (2 * body.pairs + 8) 0 body.rows base.now.names.now (base.now.words.now ++ work.old) (base.now.words.now ++ work.new)
         env.new order.now binders.now binders.now room.old.top room.old.left sp fresh.tv fresh.dv (inferred_of result room.new.top room.new.left) }
 {
     scope::put(env, r, old);

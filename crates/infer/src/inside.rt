@@ -25,7 +25,7 @@ use views::File;
 // The scheme has the name's row while the body is inferred.
 #[cycle(app_app_arg_abs_abs_rest_infer_let_body_let_rest_binding_let_mid_onward)]
 pub fn let_body(
-    base: Base,
+    base: &Base,
     work: &mut [u64],
     room: &mut Room,
     file: File,
@@ -42,9 +42,9 @@ pub fn let_body(
     k: usize,
     f: usize,
 ) -> Result<Typed, Refusal>
-    requires base_len_bound { length base.words.now ≤ 4 * room.old.top }
-    requires ready_body { ReadyBody base.names.now (base.words.now ++ work.old) env.old order.now rules.insts.now binders.old room.old.top room.old.left sp fresh.tv fresh.dv k g.scheme.vars g.scheme.preds g.scheme.ty g.term g.deferred }
-    ensures { GivesI (AskedBody file.entry.src.now base.entry.names.now file.entry.index.now (base.entry.words.now ++ work.old) rules.entry.classes.now methods.now rules.entry.insts.now env.old order.now room.old.top r f (scheme_of_word base.entry.names.now (base.entry.words.now ++ work.old) g.scheme.vars g.scheme.preds g.scheme.ty)) (λ p. let_body (λ u. infer_in depth p.0 u) (name_of base.entry.names.now r) (sub_at base.entry.names.now (base.entry.words.now ++ work.old) (sp - 2 * k) k) (scheme_of_word base.entry.names.now (base.entry.words.now ++ work.old) g.scheme.vars g.scheme.preds g.scheme.ty, core base.entry.names.now (base.entry.words.now ++ work.old) g.term, binders_in base.entry.names.now (base.entry.words.now ++ work.old) binders.old 0 g.deferred) p.1 (state_of base.entry.names.now (base.entry.words.now ++ work.old) env.old order.now fresh.tv fresh.dv) room.old.left) (2 * k + 4) 0 g.deferred base.entry.names.now (base.entry.words.now ++ work.old) (base.entry.words.now ++ work.new)
+    requires base_len_bound { length base.now.words.now ≤ 4 * room.old.top }
+    requires ready_body { ReadyBody base.now.names.now (base.now.words.now ++ work.old) env.old order.now rules.insts.now binders.old room.old.top room.old.left sp fresh.tv fresh.dv k g.scheme.vars g.scheme.preds g.scheme.ty g.term g.deferred }
+    ensures { GivesI (AskedBody file.entry.src.now base.now.names.now file.entry.index.now (base.now.words.now ++ work.old) rules.entry.classes.now methods.now rules.entry.insts.now env.old order.now room.old.top r f (scheme_of_word base.now.names.now (base.now.words.now ++ work.old) g.scheme.vars g.scheme.preds g.scheme.ty)) (λ p. let_body (λ u. infer_in depth p.0 u) (name_of base.now.names.now r) (sub_at base.now.names.now (base.now.words.now ++ work.old) (sp - 2 * k) k) (scheme_of_word base.now.names.now (base.now.words.now ++ work.old) g.scheme.vars g.scheme.preds g.scheme.ty, core base.now.names.now (base.now.words.now ++ work.old) g.term, binders_in base.now.names.now (base.now.words.now ++ work.old) binders.old 0 g.deferred) p.1 (state_of base.now.names.now (base.now.words.now ++ work.old) env.old order.now fresh.tv fresh.dv) room.old.left) (2 * k + 4) 0 g.deferred base.now.names.now (base.now.words.now ++ work.old) (base.now.words.now ++ work.new)
         env.new order.now binders.old binders.new room.old.top room.old.left sp fresh.tv fresh.dv (inferred_of result room.new.top room.new.left) }
 {
     if r >= order.len() {
@@ -61,7 +61,7 @@ pub fn let_body(
 // The body, with its rows after the deferred ones, and then the row as it was.
 #[cycle(app_app_arg_abs_abs_rest_infer_let_body_let_rest_binding_let_mid_onward)]
 fn let_rest(
-    base: Base,
+    base: &Base,
     work: &mut [u64],
     room: &mut Room,
     file: File,
@@ -79,10 +79,10 @@ fn let_rest(
     k: usize,
     f: usize,
 ) -> Result<Typed, Refusal>
-    requires base_len_bound { length base.words.now ≤ 4 * room.old.top }
-    requires ready_body { ReadyBody base.names.now (base.words.now ++ work.old) env.old order.now rules.insts.now binders.old room.old.top room.old.left sp fresh.tv fresh.dv k g.scheme.vars g.scheme.preds g.scheme.ty g.term g.deferred }
-    requires hidden { Hidden base.names.now (base.words.now ++ work.old) order.now room.old.top r old }
-    ensures { GivesI (Asked file.entry.src.now base.entry.names.now file.entry.index.now (base.entry.words.now ++ work.old) rules.entry.classes.now methods.now rules.entry.insts.now env.old order.now room.old.top f) (λ p. let_rest (λ u. infer_in depth p.0 u) (name_of base.entry.names.now r) (sub_at base.entry.names.now (base.entry.words.now ++ work.old) (sp - 2 * k) k) (core base.entry.names.now (base.entry.words.now ++ work.old) g.term) (binders_in base.entry.names.now (base.entry.words.now ++ work.old) binders.old 0 g.deferred) (scheme_in base.entry.names.now (base.entry.words.now ++ work.old) old) p.1 (state_of base.entry.names.now (base.entry.words.now ++ work.old) env.old order.now fresh.tv fresh.dv) room.old.left) (2 * k + 4) 0 g.deferred base.entry.names.now (base.entry.words.now ++ work.old) (base.entry.words.now ++ work.new)
+    requires base_len_bound { length base.now.words.now ≤ 4 * room.old.top }
+    requires ready_body { ReadyBody base.now.names.now (base.now.words.now ++ work.old) env.old order.now rules.insts.now binders.old room.old.top room.old.left sp fresh.tv fresh.dv k g.scheme.vars g.scheme.preds g.scheme.ty g.term g.deferred }
+    requires hidden { Hidden base.now.names.now (base.now.words.now ++ work.old) order.now room.old.top r old }
+    ensures { GivesI (Asked file.entry.src.now base.now.names.now file.entry.index.now (base.now.words.now ++ work.old) rules.entry.classes.now methods.now rules.entry.insts.now env.old order.now room.old.top f) (λ p. let_rest (λ u. infer_in depth p.0 u) (name_of base.now.names.now r) (sub_at base.now.names.now (base.now.words.now ++ work.old) (sp - 2 * k) k) (core base.now.names.now (base.now.words.now ++ work.old) g.term) (binders_in base.now.names.now (base.now.words.now ++ work.old) binders.old 0 g.deferred) (scheme_in base.now.names.now (base.now.words.now ++ work.old) old) p.1 (state_of base.now.names.now (base.now.words.now ++ work.old) env.old order.now fresh.tv fresh.dv) room.old.left) (2 * k + 4) 0 g.deferred base.now.names.now (base.now.words.now ++ work.old) (base.now.words.now ++ work.new)
         env.new order.now binders.old binders.new room.old.top room.old.left sp fresh.tv fresh.dv (inferred_of result room.new.top room.new.left) }
 {
     let at = sp - 2 * k;
@@ -101,7 +101,7 @@ fn let_rest(
 
 // The end of a let: the hidden row is put back, and nothing was applied to it.
 fn let_end(
-    base: Base,
+    base: &Base,
     work: &mut [u64],
     room: &mut Room,
     order: &[u64],
@@ -116,9 +116,9 @@ fn let_end(
     c: usize,
     body: Typed,
 ) -> Result<Typed, Refusal>
-    requires base_len_bound { length base.words.now ≤ 4 * room.old.top }
-    requires ready_let_end { ReadyLetEnd base.names.now (base.words.now ++ work.old) env.old order.now binders.old room.old.top room.old.left sp k c body.ty body.term body.pairs nd body.rows r old }
-    ensures { GivesI Nothing (λ _. restored_let (name_of base.entry.names.now r) (sub_at base.entry.names.now (base.entry.words.now ++ work.old) (sp - 2 * k) k) (core base.entry.names.now (base.entry.words.now ++ work.old) c) (binders_in base.entry.names.now (base.entry.words.now ++ work.old) binders.old 0 nd) (scheme_in base.entry.names.now (base.entry.words.now ++ work.old) old) (answer_from base.entry.names.now (base.entry.words.now ++ work.old) binders.old (sp - 2 * k) body.ty body.term body.pairs nd body.rows) (state_of base.entry.names.now (base.entry.words.now ++ work.old) env.old order.now fresh.tv fresh.dv) room.old.left) (2 * k + 2 * body.pairs + 4) 0 body.rows base.entry.names.now (base.entry.words.now ++ work.old) (base.entry.words.now ++ work.new)
+    requires base_len_bound { length base.now.words.now ≤ 4 * room.old.top }
+    requires ready_let_end { ReadyLetEnd base.now.names.now (base.now.words.now ++ work.old) env.old order.now binders.old room.old.top room.old.left sp k c body.ty body.term body.pairs nd body.rows r old }
+    ensures { GivesI Nothing (λ _. restored_let (name_of base.now.names.now r) (sub_at base.now.names.now (base.now.words.now ++ work.old) (sp - 2 * k) k) (core base.now.names.now (base.now.words.now ++ work.old) c) (binders_in base.now.names.now (base.now.words.now ++ work.old) binders.old 0 nd) (scheme_in base.now.names.now (base.now.words.now ++ work.old) old) (answer_from base.now.names.now (base.now.words.now ++ work.old) binders.old (sp - 2 * k) body.ty body.term body.pairs nd body.rows) (state_of base.now.names.now (base.now.words.now ++ work.old) env.old order.now fresh.tv fresh.dv) room.old.left) (2 * k + 2 * body.pairs + 4) 0 body.rows base.now.names.now (base.now.words.now ++ work.old) (base.now.words.now ++ work.new)
         env.new order.now binders.old binders.new room.old.top room.old.left sp fresh.tv fresh.dv (inferred_of result room.new.top room.new.left) }
 {
     scope::put(env, r, old);

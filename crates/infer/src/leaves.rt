@@ -17,7 +17,7 @@ use scope::{Env, Fresh};
 
 // `infer_var`: a name that is none of the table is in no file.
 pub fn name(
-    base: Base,
+    base: &Base,
     work: &mut [u64],
     room: &mut Room,
     rules: Rules,
@@ -28,9 +28,9 @@ pub fn name(
     fresh: Fresh,
     x: usize,
 ) -> Result<Typed, Refusal>
-    requires base_len_bound { length base.words.now ≤ 4 * room.old.top }
-    requires ready_i { ReadyI 0 0 0 base.names.now (base.words.now ++ work.old) env.rows.now env.order.now rules.insts.now binders.old room.old.top room.old.left sp fresh.tv fresh.dv }
-    ensures { GivesI (AskedName base.entry.names.now (base.entry.words.now ++ work.old) rules.entry.classes.now methods.now rules.entry.insts.now room.old.top x) (λ ce. infer_var ce (name_of base.entry.names.now x) (state_of base.entry.names.now (base.entry.words.now ++ work.old) env.entry.rows.now env.entry.order.now fresh.tv fresh.dv) room.old.left) 0 0 0 base.entry.names.now (base.entry.words.now ++ work.old) (base.entry.words.now ++ work.new)
+    requires base_len_bound { length base.now.words.now ≤ 4 * room.old.top }
+    requires ready_i { ReadyI 0 0 0 base.now.names.now (base.now.words.now ++ work.old) env.rows.now env.order.now rules.insts.now binders.old room.old.top room.old.left sp fresh.tv fresh.dv }
+    ensures { GivesI (AskedName base.now.names.now (base.now.words.now ++ work.old) rules.entry.classes.now methods.now rules.entry.insts.now room.old.top x) (λ ce. infer_var ce (name_of base.now.names.now x) (state_of base.now.names.now (base.now.words.now ++ work.old) env.entry.rows.now env.entry.order.now fresh.tv fresh.dv) room.old.left) 0 0 0 base.now.names.now (base.now.words.now ++ work.old) (base.now.words.now ++ work.new)
         env.entry.rows.now env.entry.order.now binders.old binders.new room.old.top room.old.left sp fresh.tv fresh.dv (inferred_of result room.new.top room.new.left) }
 {
     if x >= env.order.len() {
@@ -48,7 +48,7 @@ pub fn name(
 
 // A literal: its type, and its term.
 pub fn number(
-    base: Base,
+    base: &Base,
     work: &mut [u64],
     room: &mut Room,
     insts: &[u64],
@@ -58,9 +58,9 @@ pub fn number(
     fresh: Fresh,
     v: usize,
 ) -> Typed
-    requires base_len_bound { length base.words.now ≤ 4 * room.old.top }
-    requires ready_i { ReadyI 8 0 0 base.names.now (base.words.now ++ work.old) env.rows.now env.order.now insts.now binders.now room.old.top room.old.left sp fresh.tv fresh.dv }
-    ensures { GivesI Nothing (λ _. literal (empty, int, [], cint v) (state_of base.entry.names.now (base.entry.words.now ++ work.old) env.entry.rows.now env.entry.order.now fresh.tv fresh.dv) room.old.left) 8 0 0 base.entry.names.now (base.entry.words.now ++ work.old) (base.entry.words.now ++ work.new)
+    requires base_len_bound { length base.now.words.now ≤ 4 * room.old.top }
+    requires ready_i { ReadyI 8 0 0 base.now.names.now (base.now.words.now ++ work.old) env.rows.now env.order.now insts.now binders.now room.old.top room.old.left sp fresh.tv fresh.dv }
+    ensures { GivesI Nothing (λ _. literal (empty, int, [], cint v) (state_of base.now.names.now (base.now.words.now ++ work.old) env.entry.rows.now env.entry.order.now fresh.tv fresh.dv) room.old.left) 8 0 0 base.now.names.now (base.now.words.now ++ work.old) (base.now.words.now ++ work.new)
         env.entry.rows.now env.entry.order.now binders.now binders.now room.old.top room.old.left sp fresh.tv fresh.dv (inferred_of (Ok result) room.new.top room.new.left) }
 {
     inferred::int_literal(base, work, room, binders, sp, v).with_state(0, fresh)
@@ -68,7 +68,7 @@ pub fn number(
 
 // A literal: its type, and its term.
 pub fn truth(
-    base: Base,
+    base: &Base,
     work: &[u64],
     room: Room,
     insts: &[u64],
@@ -78,9 +78,9 @@ pub fn truth(
     fresh: Fresh,
     b: bool,
 ) -> Typed
-    requires base_len_bound { length base.words.now ≤ 4 * room.top }
-    requires ready_i { ReadyI 8 0 0 base.names.now (base.words.now ++ work.now) env.rows.now env.order.now insts.now binders.now room.top room.left sp fresh.tv fresh.dv }
-    ensures { GivesI Nothing (λ _. literal (empty, bool, [], cbool b) (state_of base.entry.names.now (base.entry.words.now ++ work.now) env.entry.rows.now env.entry.order.now fresh.tv fresh.dv) room.left) 8 0 0 base.entry.names.now (base.entry.words.now ++ work.now) (base.entry.words.now ++ work.now)
+    requires base_len_bound { length base.now.words.now ≤ 4 * room.top }
+    requires ready_i { ReadyI 8 0 0 base.now.names.now (base.now.words.now ++ work.now) env.rows.now env.order.now insts.now binders.now room.top room.left sp fresh.tv fresh.dv }
+    ensures { GivesI Nothing (λ _. literal (empty, bool, [], cbool b) (state_of base.now.names.now (base.now.words.now ++ work.now) env.entry.rows.now env.entry.order.now fresh.tv fresh.dv) room.left) 8 0 0 base.now.names.now (base.now.words.now ++ work.now) (base.now.words.now ++ work.now)
         env.entry.rows.now env.entry.order.now binders.now binders.now room.top room.left sp fresh.tv fresh.dv (inferred_of (Ok result) room.top room.left) }
 {
     inferred::bool_literal(base, work, room, binders, sp, b).with_state(0, fresh)

@@ -20,7 +20,7 @@ use views::File;
 // `infer_let`: what is bound first.
 #[cycle(app_app_arg_abs_abs_rest_infer_let_body_let_rest_binding_let_mid_onward)]
 pub fn binding(
-    base: Base,
+    base: &Base,
     work: &mut [u64],
     room: &mut Room,
     file: File,
@@ -36,9 +36,9 @@ pub fn binding(
     b: usize,
     f: usize,
 ) -> Result<Typed, Refusal>
-    requires base_len_bound { length base.words.now ≤ 4 * room.old.top }
-    requires ready_i { ReadyI 8 0 1 base.names.now (base.words.now ++ work.old) env.old order.now rules.insts.now binders.old room.old.top room.old.left sp fresh.tv fresh.dv }
-    ensures { GivesI (AskedLet file.entry.src.now base.entry.names.now file.entry.index.now (base.entry.words.now ++ work.old) rules.entry.classes.now methods.now rules.entry.insts.now env.old order.now room.old.top r b f) (λ p. inferred_then (infer_in depth p.0 p.1) (λ r₁. let_mid p.0 (λ u. infer_in depth p.0 u) (name_of base.entry.names.now r) r₁ p.2) (state_of base.entry.names.now (base.entry.words.now ++ work.old) env.old order.now fresh.tv fresh.dv) room.old.left) 8 0 1 base.entry.names.now (base.entry.words.now ++ work.old) (base.entry.words.now ++ work.new)
+    requires base_len_bound { length base.now.words.now ≤ 4 * room.old.top }
+    requires ready_i { ReadyI 8 0 1 base.now.names.now (base.now.words.now ++ work.old) env.old order.now rules.insts.now binders.old room.old.top room.old.left sp fresh.tv fresh.dv }
+    ensures { GivesI (AskedLet file.entry.src.now base.now.names.now file.entry.index.now (base.now.words.now ++ work.old) rules.entry.classes.now methods.now rules.entry.insts.now env.old order.now room.old.top r b f) (λ p. inferred_then (infer_in depth p.0 p.1) (λ r₁. let_mid p.0 (λ u. infer_in depth p.0 u) (name_of base.now.names.now r) r₁ p.2) (state_of base.now.names.now (base.now.words.now ++ work.old) env.old order.now fresh.tv fresh.dv) room.old.left) 8 0 1 base.now.names.now (base.now.words.now ++ work.old) (base.now.words.now ++ work.new)
         env.new order.now binders.old binders.new room.old.top room.old.left sp fresh.tv fresh.dv (inferred_of result room.new.top room.new.left) }
 {
     let bound = crate::infer(
@@ -53,7 +53,7 @@ pub fn binding(
 // What is bound is generalized; then the body.
 #[cycle(app_app_arg_abs_abs_rest_infer_let_body_let_rest_binding_let_mid_onward)]
 fn let_mid(
-    base: Base,
+    base: &Base,
     work: &mut [u64],
     room: &mut Room,
     file: File,
@@ -69,9 +69,9 @@ fn let_mid(
     bound: Typed,
     f: usize,
 ) -> Result<Typed, Refusal>
-    requires base_len_bound { length base.words.now ≤ 4 * room.old.top }
-    requires ready_mid { ReadyMid base.names.now (base.words.now ++ work.old) env.old order.now rules.insts.now binders.old room.old.top room.old.left sp fresh.tv fresh.dv bound.ty bound.term bound.pairs bound.rows }
-    ensures { GivesI (AskedMid file.entry.src.now base.entry.names.now file.entry.index.now (base.entry.words.now ++ work.old) rules.entry.classes.now methods.now rules.entry.insts.now env.old order.now room.old.top r f (answer_of base.entry.names.now (base.entry.words.now ++ work.old) binders.old sp bound.ty bound.term bound.pairs bound.rows) (state_of base.entry.names.now (base.entry.words.now ++ work.old) env.old order.now fresh.tv fresh.dv)) (λ p. let_mid p.0 (λ u. infer_in depth p.0 u) (name_of base.entry.names.now r) (answer_of base.entry.names.now (base.entry.words.now ++ work.old) binders.old sp bound.ty bound.term bound.pairs bound.rows) p.1 (state_of base.entry.names.now (base.entry.words.now ++ work.old) env.old order.now fresh.tv fresh.dv) room.old.left) (2 * bound.pairs + 8) 0 bound.rows base.entry.names.now (base.entry.words.now ++ work.old) (base.entry.words.now ++ work.new)
+    requires base_len_bound { length base.now.words.now ≤ 4 * room.old.top }
+    requires ready_mid { ReadyMid base.now.names.now (base.now.words.now ++ work.old) env.old order.now rules.insts.now binders.old room.old.top room.old.left sp fresh.tv fresh.dv bound.ty bound.term bound.pairs bound.rows }
+    ensures { GivesI (AskedMid file.entry.src.now base.now.names.now file.entry.index.now (base.now.words.now ++ work.old) rules.entry.classes.now methods.now rules.entry.insts.now env.old order.now room.old.top r f (answer_of base.now.names.now (base.now.words.now ++ work.old) binders.old sp bound.ty bound.term bound.pairs bound.rows) (state_of base.now.names.now (base.now.words.now ++ work.old) env.old order.now fresh.tv fresh.dv)) (λ p. let_mid p.0 (λ u. infer_in depth p.0 u) (name_of base.now.names.now r) (answer_of base.now.names.now (base.now.words.now ++ work.old) binders.old sp bound.ty bound.term bound.pairs bound.rows) p.1 (state_of base.now.names.now (base.now.words.now ++ work.old) env.old order.now fresh.tv fresh.dv) room.old.left) (2 * bound.pairs + 8) 0 bound.rows base.now.names.now (base.now.words.now ++ work.old) (base.now.words.now ++ work.new)
         env.new order.now binders.old binders.new room.old.top room.old.left sp fresh.tv fresh.dv (inferred_of result room.new.top room.new.left) }
 {
     let g = binding::general(

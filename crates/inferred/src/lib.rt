@@ -57,18 +57,29 @@ impl Closing {
     }
 }
 
+// The same of what an end answered: a refusal is handed on.
+pub fn with_state(
+    end: Result<Closing, Refusal>,
+    rows: usize,
+    fresh: Fresh,
+) -> Result<Typed, Refusal>
+    ensures { (top left : ℕ) → inferred_of result top left ≡ with_state (closed_of end top left) rows fresh.tv fresh.dv }
+{
+    Ok(end?.with_state(rows, fresh))
+}
+
 // A number: its type, and a node for it.
 pub fn int_literal(
-    base: Base,
+    base: &Base,
     work: &mut [u64],
     room: &mut Room,
     binders: &[u64],
     sp: usize,
     v: usize,
 ) -> Closing
-    requires base_len_bound { length base.words.now ≤ 4 * room.old.top }
-    requires ready_literal { ReadyLiteral base.names.now (base.words.now ++ work.old) binders.now room.old.top room.old.left sp }
-    ensures { GivesC (done (empty, int, [], cint v) room.old.left) 8 base.entry.names.now (base.entry.words.now ++ work.old) (base.entry.words.now ++ work.new) binders.now binders.now room.old.top room.old.left sp 0 (closed_of (Ok result) room.new.top room.new.left) }
+    requires base_len_bound { length base.now.words.now ≤ 4 * room.old.top }
+    requires ready_literal { ReadyLiteral base.now.names.now (base.now.words.now ++ work.old) binders.now room.old.top room.old.left sp }
+    ensures { GivesC (done (empty, int, [], cint v) room.old.left) 8 base.now.names.now (base.now.words.now ++ work.old) (base.now.words.now ++ work.new) binders.now binders.now room.old.top room.old.left sp 0 (closed_of (Ok result) room.new.top room.new.left) }
 {
     let term = cores::push_int(base, work, room, v);
     Closing {
@@ -80,16 +91,16 @@ pub fn int_literal(
 
 // A truth value: its type, and its word.
 pub fn bool_literal(
-    base: Base,
+    base: &Base,
     work: &[u64],
     room: Room,
     binders: &[u64],
     sp: usize,
     b: bool,
 ) -> Closing
-    requires base_len_bound { length base.words.now ≤ 4 * room.top }
-    requires ready_literal { ReadyLiteral base.names.now (base.words.now ++ work.now) binders.now room.top room.left sp }
-    ensures { GivesC (done (empty, bool, [], cbool b) room.left) 8 base.entry.names.now (base.entry.words.now ++ work.now) (base.entry.words.now ++ work.now) binders.now binders.now room.top room.left sp 0 (closed_of (Ok result) room.top room.left) }
+    requires base_len_bound { length base.now.words.now ≤ 4 * room.top }
+    requires ready_literal { ReadyLiteral base.now.names.now (base.now.words.now ++ work.now) binders.now room.top room.left sp }
+    ensures { GivesC (done (empty, bool, [], cbool b) room.left) 8 base.now.names.now (base.now.words.now ++ work.now) (base.now.words.now ++ work.now) binders.now binders.now room.top room.left sp 0 (closed_of (Ok result) room.top room.left) }
 {
     let word = if b {
         names::NULLARY + 1
@@ -105,7 +116,7 @@ pub fn bool_literal(
 
 // The end of an abstraction of the parameter x, whose variable is a.
 pub fn abs_close(
-    base: Base,
+    base: &Base,
     work: &mut [u64],
     room: &mut Room,
     binders: &[u64],
@@ -114,10 +125,10 @@ pub fn abs_close(
     x: usize,
     body: Typed,
 ) -> Result<Closing, Refusal>
-    requires base_len_bound { length base.words.now ≤ 4 * room.old.top }
-    requires ready_abs { ReadyAbs base.names.now (base.words.now ++ work.old) binders.now room.old.top room.old.left sp body.ty body.term body.pairs body.rows a }
-    ensures { GivesC (abs_close (name_of base.entry.names.now x) (tyvar_of base.entry.names.now a) (answer_of base.entry.names.now (base.entry.words.now ++ work.old) binders.now sp body.ty body.term body.pairs body.rows) room.old.left) (2 * body.pairs + 8)
-        base.entry.names.now (base.entry.words.now ++ work.old) (base.entry.words.now ++ work.new) binders.now binders.now room.old.top room.old.left sp body.rows (closed_of result room.new.top room.new.left) }
+    requires base_len_bound { length base.now.words.now ≤ 4 * room.old.top }
+    requires ready_abs { ReadyAbs base.now.names.now (base.now.words.now ++ work.old) binders.now room.old.top room.old.left sp body.ty body.term body.pairs body.rows a }
+    ensures { GivesC (abs_close (name_of base.now.names.now x) (tyvar_of base.now.names.now a) (answer_of base.now.names.now (base.now.words.now ++ work.old) binders.now sp body.ty body.term body.pairs body.rows) room.old.left) (2 * body.pairs + 8)
+        base.now.names.now (base.now.words.now ++ work.old) (base.now.words.now ++ work.new) binders.now binders.now room.old.top room.old.left sp body.rows (closed_of result room.new.top room.new.left) }
 {
     let f = ends::abs_end(base, work, room, sp, body.pairs, a, body.ty, x, body.term)?;
     Ok(Closing {
@@ -129,7 +140,7 @@ pub fn abs_close(
 
 // The end of an application whose types are joined: its pairs applied to all m pending rows, and its term.
 fn app_last(
-    base: Base,
+    base: &Base,
     work: &mut [u64],
     room: &mut Room,
     binders: &mut [u64],
@@ -139,10 +150,10 @@ fn app_last(
     f: usize,
     e: usize,
 ) -> Result<Closing, Refusal>
-    requires base_len_bound { length base.words.now ≤ 4 * room.old.top }
-    requires ready_last { ReadyLast base.names.now (base.words.now ++ work.old) binders.old room.old.top room.old.left sp join.ty f e join.pairs m }
-    ensures { GivesC (app_rows (sub_at base.entry.names.now (base.entry.words.now ++ work.old) (sp - 2 * join.pairs) join.pairs) (tree base.entry.names.now (base.entry.words.now ++ work.old) join.ty) (binders_in base.entry.names.now (base.entry.words.now ++ work.old) binders.old 0 m) (core base.entry.names.now (base.entry.words.now ++ work.old) f) (core base.entry.names.now (base.entry.words.now ++ work.old) e) room.old.left) (2 * join.pairs + 4)
-        base.entry.names.now (base.entry.words.now ++ work.old) (base.entry.words.now ++ work.new) binders.old binders.new room.old.top room.old.left sp m (closed_of result room.new.top room.new.left) }
+    requires base_len_bound { length base.now.words.now ≤ 4 * room.old.top }
+    requires ready_last { ReadyLast base.now.names.now (base.now.words.now ++ work.old) binders.old room.old.top room.old.left sp join.ty f e join.pairs m }
+    ensures { GivesC (app_rows (sub_at base.now.names.now (base.now.words.now ++ work.old) (sp - 2 * join.pairs) join.pairs) (tree base.now.names.now (base.now.words.now ++ work.old) join.ty) (binders_in base.now.names.now (base.now.words.now ++ work.old) binders.old 0 m) (core base.now.names.now (base.now.words.now ++ work.old) f) (core base.now.names.now (base.now.words.now ++ work.old) e) room.old.left) (2 * join.pairs + 4)
+        base.now.names.now (base.now.words.now ++ work.old) (base.now.words.now ++ work.new) binders.old binders.new room.old.top room.old.left sp m (closed_of result room.new.top room.new.left) }
 {
     let k = join.pairs;
     let at = sp - 2 * k;
@@ -158,7 +169,7 @@ fn app_last(
 // The end of an application: the argument's rows are all that are pending, the function's first, and its pairs lie below the
 // function's.
 pub fn app_close(
-    base: Base,
+    base: &Base,
     work: &mut [u64],
     room: &mut Room,
     binders: &mut [u64],
@@ -167,11 +178,11 @@ pub fn app_close(
     function: Typed,
     argument: Typed,
 ) -> Result<Closing, Refusal>
-    requires base_len_bound { length base.words.now ≤ 4 * room.old.top }
-    requires ready_app { ReadyApp base.names.now (base.words.now ++ work.old) binders.old room.old.top room.old.left sp function.ty function.term function.pairs argument.ty argument.term argument.pairs function.rows argument.rows a }
-    ensures { GivesC (app_close (tyvar_of base.entry.names.now a) (answer_of base.entry.names.now (base.entry.words.now ++ work.old) binders.old sp function.ty function.term function.pairs function.rows)
-        (answer_from base.entry.names.now (base.entry.words.now ++ work.old) binders.old (sp - 2 * function.pairs) argument.ty argument.term argument.pairs function.rows argument.rows) room.old.left) (2 * function.pairs + 2 * argument.pairs + 8)
-        base.entry.names.now (base.entry.words.now ++ work.old) (base.entry.words.now ++ work.new) binders.old binders.new room.old.top room.old.left sp argument.rows (closed_of result room.new.top room.new.left) }
+    requires base_len_bound { length base.now.words.now ≤ 4 * room.old.top }
+    requires ready_app { ReadyApp base.now.names.now (base.now.words.now ++ work.old) binders.old room.old.top room.old.left sp function.ty function.term function.pairs argument.ty argument.term argument.pairs function.rows argument.rows a }
+    ensures { GivesC (app_close (tyvar_of base.now.names.now a) (answer_of base.now.names.now (base.now.words.now ++ work.old) binders.old sp function.ty function.term function.pairs function.rows)
+        (answer_from base.now.names.now (base.now.words.now ++ work.old) binders.old (sp - 2 * function.pairs) argument.ty argument.term argument.pairs function.rows argument.rows) room.old.left) (2 * function.pairs + 2 * argument.pairs + 8)
+        base.now.names.now (base.now.words.now ++ work.old) (base.now.words.now ++ work.new) binders.old binders.new room.old.top room.old.left sp argument.rows (closed_of result room.new.top room.new.left) }
 {
     let join = ends::app_end(
         base,
@@ -199,7 +210,7 @@ pub fn app_close(
 
 // The end of a let whose deferred rows are applied to: all pairs composed, and its term.
 fn let_last(
-    base: Base,
+    base: &Base,
     work: &mut [u64],
     room: &mut Room,
     binders: &[u64],
@@ -209,12 +220,12 @@ fn let_last(
     c: usize,
     body: Typed,
 ) -> Result<Closing, Refusal>
-    requires base_len_bound { length base.words.now ≤ 4 * room.old.top }
-    requires ready_let { ReadyLet base.names.now (base.words.now ++ work.old) binders.now room.old.top room.old.left sp k c body.ty body.term body.pairs body.rows body.rows }
-    ensures { GivesC (let_last (name_of base.entry.names.now x) (sub_at base.entry.names.now (base.entry.words.now ++ work.old) (sp - 2 * k - 2 * body.pairs) body.pairs) (sub_at base.entry.names.now (base.entry.words.now ++ work.old) (sp - 2 * k) k)
-        (tree base.entry.names.now (base.entry.words.now ++ work.old) body.ty) (binders_in base.entry.names.now (base.entry.words.now ++ work.old) binders.now 0 body.rows)
-        (core base.entry.names.now (base.entry.words.now ++ work.old) c) (core base.entry.names.now (base.entry.words.now ++ work.old) body.term) room.old.left) (2 * k + 2 * body.pairs + 4)
-        base.entry.names.now (base.entry.words.now ++ work.old) (base.entry.words.now ++ work.new) binders.now binders.now room.old.top room.old.left sp body.rows (closed_of result room.new.top room.new.left) }
+    requires base_len_bound { length base.now.words.now ≤ 4 * room.old.top }
+    requires ready_let { ReadyLet base.now.names.now (base.now.words.now ++ work.old) binders.now room.old.top room.old.left sp k c body.ty body.term body.pairs body.rows body.rows }
+    ensures { GivesC (let_last (name_of base.now.names.now x) (sub_at base.now.names.now (base.now.words.now ++ work.old) (sp - 2 * k - 2 * body.pairs) body.pairs) (sub_at base.now.names.now (base.now.words.now ++ work.old) (sp - 2 * k) k)
+        (tree base.now.names.now (base.now.words.now ++ work.old) body.ty) (binders_in base.now.names.now (base.now.words.now ++ work.old) binders.now 0 body.rows)
+        (core base.now.names.now (base.now.words.now ++ work.old) c) (core base.now.names.now (base.now.words.now ++ work.old) body.term) room.old.left) (2 * k + 2 * body.pairs + 4)
+        base.now.names.now (base.now.words.now ++ work.old) (base.now.words.now ++ work.new) binders.now binders.now room.old.top room.old.left sp body.rows (closed_of result room.new.top room.new.left) }
 {
     let lo = sp - 2 * k - 2 * body.pairs;
     let sides = Beside {
@@ -234,7 +245,7 @@ fn let_last(
 // The end of a let: what it binds has the term c, k pairs and nd deferred rows; the body's rows are all that are pending, these
 // first, and its pairs lie below the k.
 pub fn let_close(
-    base: Base,
+    base: &Base,
     work: &mut [u64],
     room: &mut Room,
     binders: &mut [u64],
@@ -245,11 +256,11 @@ pub fn let_close(
     c: usize,
     body: Typed,
 ) -> Result<Closing, Refusal>
-    requires base_len_bound { length base.words.now ≤ 4 * room.old.top }
-    requires ready_let { ReadyLet base.names.now (base.words.now ++ work.old) binders.old room.old.top room.old.left sp k c body.ty body.term body.pairs nd body.rows }
-    ensures { GivesC (let_close (name_of base.entry.names.now x) (sub_at base.entry.names.now (base.entry.words.now ++ work.old) (sp - 2 * k) k) (core base.entry.names.now (base.entry.words.now ++ work.old) c) (binders_in base.entry.names.now (base.entry.words.now ++ work.old) binders.old 0 nd)
-        (answer_from base.entry.names.now (base.entry.words.now ++ work.old) binders.old (sp - 2 * k) body.ty body.term body.pairs nd body.rows) room.old.left) (2 * k + 2 * body.pairs + 4)
-        base.entry.names.now (base.entry.words.now ++ work.old) (base.entry.words.now ++ work.new) binders.old binders.new room.old.top room.old.left sp body.rows (closed_of result room.new.top room.new.left) }
+    requires base_len_bound { length base.now.words.now ≤ 4 * room.old.top }
+    requires ready_let { ReadyLet base.now.names.now (base.now.words.now ++ work.old) binders.old room.old.top room.old.left sp k c body.ty body.term body.pairs nd body.rows }
+    ensures { GivesC (let_close (name_of base.now.names.now x) (sub_at base.now.names.now (base.now.words.now ++ work.old) (sp - 2 * k) k) (core base.now.names.now (base.now.words.now ++ work.old) c) (binders_in base.now.names.now (base.now.words.now ++ work.old) binders.old 0 nd)
+        (answer_from base.now.names.now (base.now.words.now ++ work.old) binders.old (sp - 2 * k) body.ty body.term body.pairs nd body.rows) room.old.left) (2 * k + 2 * body.pairs + 4)
+        base.now.names.now (base.now.words.now ++ work.old) (base.now.words.now ++ work.new) binders.old binders.new room.old.top room.old.left sp body.rows (closed_of result room.new.top room.new.left) }
 {
     let lo = sp - 2 * k - 2 * body.pairs;
     let sub = Subst {

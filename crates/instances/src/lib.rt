@@ -36,10 +36,10 @@ pub struct Match {
 }
 
 // Instance number i: all reading of an instance's words.
-pub fn instance_at(base: Base, work: &[u64], insts: &[u64], i: usize) -> Instance
+pub fn instance_at(base: &Base, work: &[u64], insts: &[u64], i: usize) -> Instance
     requires i_in_bounds { i < length insts.now }
-    requires openable { Openable (base.words.now ++ work.now) (get_or insts.now i 0) }
-    ensures { Opened (base.entry.words.now ++ work.now) (get_or insts.now i 0) result.class result.head result.context }
+    requires openable { Openable (base.now.words.now ++ work.now) (get_or insts.now i 0) }
+    ensures { Opened (base.now.words.now ++ work.now) (get_or insts.now i 0) result.class result.head result.context }
 {
     let l = insts[i] as usize;
     let c = ast::cell_at(base, work, l);
@@ -56,17 +56,17 @@ pub fn instance_at(base: Base, work: &[u64], insts: &[u64], i: usize) -> Instanc
 // `attempt` of a match: an error of the Rust is no match, and its steps are spent and the nodes that it wrote are given back; a
 // refusal that the port adds stays.
 fn try_match(
-    base: Base,
+    base: &Base,
     work: &mut [u64],
     room: &mut Room,
     sp: usize,
     s: usize,
     t: usize,
 ) -> Result<Option<usize>, Refusal>
-    requires base_len_bound { length base.words.now ≤ 4 * room.old.top }
-    requires ready_u { ReadyU base.names.now (base.words.now ++ work.old) room.old.top room.old.left sp s t }
-    ensures gives { Tries base.entry.names.now (base.entry.words.now ++ work.old) (base.entry.words.now ++ work.new) room.old.top room.old.left sp
-        (settled (match_in 256 (tree base.entry.names.now (base.entry.words.now ++ work.old) s) (tree base.entry.names.now (base.entry.words.now ++ work.old) t) room.old.left)) (tried_of result room.new.top room.new.left) }
+    requires base_len_bound { length base.now.words.now ≤ 4 * room.old.top }
+    requires ready_u { ReadyU base.now.names.now (base.now.words.now ++ work.old) room.old.top room.old.left sp s t }
+    ensures gives { Tries base.now.names.now (base.now.words.now ++ work.old) (base.now.words.now ++ work.new) room.old.top room.old.left sp
+        (settled (match_in 256 (tree base.now.names.now (base.now.words.now ++ work.old) s) (tree base.now.names.now (base.now.words.now ++ work.old) t) room.old.left)) (tried_of result room.new.top room.new.left) }
     ensures stays { result ≡ Ok None → room.new.top ≡ room.old.top }
 {
     let top = room.top;
@@ -84,7 +84,7 @@ fn try_match(
 
 // The head of instance number i against a goal of class c at t.
 fn try_instance(
-    base: Base,
+    base: &Base,
     work: &mut [u64],
     room: &mut Room,
     insts: &[u64],
@@ -93,12 +93,12 @@ fn try_instance(
     c: usize,
     t: usize,
 ) -> Result<Option<usize>, Refusal>
-    requires base_len_bound { length base.words.now ≤ 4 * room.old.top }
-    requires ready_pick { ReadyPick base.names.now (base.words.now ++ work.old) insts.now room.old.top room.old.left sp t }
+    requires base_len_bound { length base.now.words.now ≤ 4 * room.old.top }
+    requires ready_pick { ReadyPick base.now.names.now (base.now.words.now ++ work.old) insts.now room.old.top room.old.left sp t }
     requires i_in_bounds { i < length insts.now }
-    ensures gives { Tries base.entry.names.now (base.entry.words.now ++ work.old) (base.entry.words.now ++ work.new) room.old.top room.old.left sp
-        (tried (head_of base.entry.names.now (base.entry.words.now ++ work.old) (get_or insts.now i 0))
-        (pred (name_of base.entry.names.now c) (tree base.entry.names.now (base.entry.words.now ++ work.old) t)) room.old.left) (tried_of result room.new.top room.new.left) }
+    ensures gives { Tries base.now.names.now (base.now.words.now ++ work.old) (base.now.words.now ++ work.new) room.old.top room.old.left sp
+        (tried (head_of base.now.names.now (base.now.words.now ++ work.old) (get_or insts.now i 0))
+        (pred (name_of base.now.names.now c) (tree base.now.names.now (base.now.words.now ++ work.old) t)) room.old.left) (tried_of result room.new.top room.new.left) }
     ensures stays { result ≡ Ok None → room.new.top ≡ room.old.top }
 {
     let x = instance_at(base, work, insts, i);
@@ -110,7 +110,7 @@ fn try_instance(
 
 // `by_inst`: the first instance whose head matches a goal of class c at t. Its match is left as pairs that end at sp.
 pub fn by_inst(
-    base: Base,
+    base: &Base,
     work: &mut [u64],
     room: &mut Room,
     insts: &[u64],
@@ -118,10 +118,10 @@ pub fn by_inst(
     c: usize,
     t: usize,
 ) -> Result<Option<Match>, Refusal>
-    requires base_len_bound { length base.words.now ≤ 4 * room.old.top }
-    requires ready_pick { ReadyPick base.names.now (base.words.now ++ work.old) insts.now room.old.top room.old.left sp t }
-    ensures gives { GivesPick base.entry.names.now (base.entry.words.now ++ work.old) (base.entry.words.now ++ work.new) insts.now room.old.top room.old.left sp
-        (pred (name_of base.entry.names.now c) (tree base.entry.names.now (base.entry.words.now ++ work.old) t)) (picked_of result room.new.top room.new.left) }
+    requires base_len_bound { length base.now.words.now ≤ 4 * room.old.top }
+    requires ready_pick { ReadyPick base.now.names.now (base.now.words.now ++ work.old) insts.now room.old.top room.old.left sp t }
+    ensures gives { GivesPick base.now.names.now (base.now.words.now ++ work.old) (base.now.words.now ++ work.new) insts.now room.old.top room.old.left sp
+        (pred (name_of base.now.names.now c) (tree base.now.names.now (base.now.words.now ++ work.old) t)) (picked_of result room.new.top room.new.left) }
     ensures stays { result ≡ Ok None → room.new.top ≡ room.old.top }
 {
     for i in 0..insts.len() {
@@ -135,17 +135,17 @@ pub fn by_inst(
 
 // The second way of `overlaps`: b against a.
 fn overlaps_back(
-    base: Base,
+    base: &Base,
     work: &mut [u64],
     room: &mut Room,
     sp: usize,
     a: usize,
     b: usize,
 ) -> Result<bool, Refusal>
-    requires base_len_bound { length base.words.now ≤ 4 * room.old.top }
-    requires ready_u { ReadyU base.names.now (base.words.now ++ work.old) room.old.top room.old.left sp a b }
-    ensures gives { Tests base.entry.names.now (base.entry.words.now ++ work.old) (base.entry.words.now ++ work.new) room.old.top room.old.left sp
-        (M.or_back none (tree base.entry.names.now (base.entry.words.now ++ work.old) a) (tree base.entry.names.now (base.entry.words.now ++ work.old) b) room.old.left) (truth_of result room.new.top room.new.left) }
+    requires base_len_bound { length base.now.words.now ≤ 4 * room.old.top }
+    requires ready_u { ReadyU base.now.names.now (base.now.words.now ++ work.old) room.old.top room.old.left sp a b }
+    ensures gives { Tests base.now.names.now (base.now.words.now ++ work.old) (base.now.words.now ++ work.new) room.old.top room.old.left sp
+        (M.or_back none (tree base.now.names.now (base.now.words.now ++ work.old) a) (tree base.now.names.now (base.now.words.now ++ work.old) b) room.old.left) (truth_of result room.new.top room.new.left) }
     ensures stays { IfOk result (λ x. room.new.top ≡ room.old.top) }
 {
     let top = room.top;
@@ -156,17 +156,17 @@ fn overlaps_back(
 
 // `overlaps`: whether a matches b or b matches a.
 pub fn overlaps(
-    base: Base,
+    base: &Base,
     work: &mut [u64],
     room: &mut Room,
     sp: usize,
     a: usize,
     b: usize,
 ) -> Result<bool, Refusal>
-    requires base_len_bound { length base.words.now ≤ 4 * room.old.top }
-    requires ready_u { ReadyU base.names.now (base.words.now ++ work.old) room.old.top room.old.left sp a b }
-    ensures gives { Tests base.entry.names.now (base.entry.words.now ++ work.old) (base.entry.words.now ++ work.new) room.old.top room.old.left sp
-        (M.overlaps (tree base.entry.names.now (base.entry.words.now ++ work.old) a) (tree base.entry.names.now (base.entry.words.now ++ work.old) b) room.old.left) (truth_of result room.new.top room.new.left) }
+    requires base_len_bound { length base.now.words.now ≤ 4 * room.old.top }
+    requires ready_u { ReadyU base.now.names.now (base.now.words.now ++ work.old) room.old.top room.old.left sp a b }
+    ensures gives { Tests base.now.names.now (base.now.words.now ++ work.old) (base.now.words.now ++ work.new) room.old.top room.old.left sp
+        (M.overlaps (tree base.now.names.now (base.now.words.now ++ work.old) a) (tree base.now.names.now (base.now.words.now ++ work.old) b) room.old.left) (truth_of result room.new.top room.new.left) }
     ensures stays { IfOk result (λ x. room.new.top ≡ room.old.top) }
 {
     let top = room.top;
@@ -182,7 +182,7 @@ pub fn overlaps(
 
 // Whether the head of instance number i overlaps a new head of class c at t.
 fn overlaps_instance(
-    base: Base,
+    base: &Base,
     work: &mut [u64],
     room: &mut Room,
     insts: &[u64],
@@ -191,12 +191,12 @@ fn overlaps_instance(
     c: usize,
     t: usize,
 ) -> Result<bool, Refusal>
-    requires base_len_bound { length base.words.now ≤ 4 * room.old.top }
-    requires ready_pick { ReadyPick base.names.now (base.words.now ++ work.old) insts.now room.old.top room.old.left sp t }
+    requires base_len_bound { length base.now.words.now ≤ 4 * room.old.top }
+    requires ready_pick { ReadyPick base.now.names.now (base.now.words.now ++ work.old) insts.now room.old.top room.old.left sp t }
     requires i_in_bounds { i < length insts.now }
-    ensures gives { Tests base.entry.names.now (base.entry.words.now ++ work.old) (base.entry.words.now ++ work.new) room.old.top room.old.left sp
-        (clash (head_of base.entry.names.now (base.entry.words.now ++ work.old) (get_or insts.now i 0))
-        (pred (name_of base.entry.names.now c) (tree base.entry.names.now (base.entry.words.now ++ work.old) t)) room.old.left) (truth_of result room.new.top room.new.left) }
+    ensures gives { Tests base.now.names.now (base.now.words.now ++ work.old) (base.now.words.now ++ work.new) room.old.top room.old.left sp
+        (clash (head_of base.now.names.now (base.now.words.now ++ work.old) (get_or insts.now i 0))
+        (pred (name_of base.now.names.now c) (tree base.now.names.now (base.now.words.now ++ work.old) t)) room.old.left) (truth_of result room.new.top room.new.left) }
     ensures stays { IfOk result (λ x. room.new.top ≡ room.old.top) }
 {
     let x = instance_at(base, work, insts, i);
@@ -208,7 +208,7 @@ fn overlaps_instance(
 
 // The test of `add_instance`: no older head of the class c overlaps a new one at t, or 18.
 pub fn none_overlaps(
-    base: Base,
+    base: &Base,
     work: &mut [u64],
     room: &mut Room,
     insts: &[u64],
@@ -216,10 +216,10 @@ pub fn none_overlaps(
     c: usize,
     t: usize,
 ) -> Result<(), Refusal>
-    requires base_len_bound { length base.words.now ≤ 4 * room.old.top }
-    requires ready_pick { ReadyPick base.names.now (base.words.now ++ work.old) insts.now room.old.top room.old.left sp t }
-    ensures gives { GivesApart base.entry.names.now (base.entry.words.now ++ work.old) (base.entry.words.now ++ work.new) insts.now room.old.top room.old.left sp
-        (pred (name_of base.entry.names.now c) (tree base.entry.names.now (base.entry.words.now ++ work.old) t)) (apart_of result room.new.top room.new.left) }
+    requires base_len_bound { length base.now.words.now ≤ 4 * room.old.top }
+    requires ready_pick { ReadyPick base.now.names.now (base.now.words.now ++ work.old) insts.now room.old.top room.old.left sp t }
+    ensures gives { GivesApart base.now.names.now (base.now.words.now ++ work.old) (base.now.words.now ++ work.new) insts.now room.old.top room.old.left sp
+        (pred (name_of base.now.names.now c) (tree base.now.names.now (base.now.words.now ++ work.old) t)) (apart_of result room.new.top room.new.left) }
     ensures stays { IfOk result (λ x. room.new.top ≡ room.old.top) }
 {
     for j in 0..insts.len() {

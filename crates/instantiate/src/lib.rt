@@ -50,7 +50,7 @@ fn put_row(binders: &mut [u64], j: usize, d: usize, c: usize, x: usize)
 // A row for each predicate of the list ps, left to right: the next dictionary's number, the class, and the type with the
 // variables of the list vs made anew.
 fn take_preds(
-    base: Base,
+    base: &Base,
     work: &mut [u64],
     room: &mut Room,
     binders: &mut [u64],
@@ -58,9 +58,9 @@ fn take_preds(
     vs: usize,
     ps: usize,
 ) -> Result<usize, Refusal>
-    requires base_len_bound { length base.words.now ≤ 4 * room.old.top }
-    requires ready_preds { ReadyPreds base.names.now (base.words.now ++ work.old) binders.old room.old.top room.old.left fresh.tv fresh.dv vs ps }
-    ensures { GivesTaken base.entry.names.now (base.entry.words.now ++ work.old) (base.entry.words.now ++ work.new) binders.new room.old.top room.old.left fresh.tv fresh.dv vs ps (taken_of result room.new.top room.new.left) }
+    requires base_len_bound { length base.now.words.now ≤ 4 * room.old.top }
+    requires ready_preds { ReadyPreds base.now.names.now (base.now.words.now ++ work.old) binders.old room.old.top room.old.left fresh.tv fresh.dv vs ps }
+    ensures { GivesTaken base.now.names.now (base.now.words.now ++ work.old) (base.now.words.now ++ work.new) binders.new room.old.top room.old.left fresh.tv fresh.dv vs ps (taken_of result room.new.top room.new.left) }
 {
     let to = names::FRESH + fresh.tv;
     let mut l = ps;
@@ -78,7 +78,7 @@ fn take_preds(
 
 // `instantiate`: the type first, then a row for each predicate.
 pub fn instantiate(
-    base: Base,
+    base: &Base,
     work: &mut [u64],
     room: &mut Room,
     binders: &mut [u64],
@@ -86,9 +86,9 @@ pub fn instantiate(
     fresh: Fresh,
     scheme: Scheme,
 ) -> Result<Opened, Refusal>
-    requires base_len_bound { length base.words.now ≤ 4 * room.old.top }
-    requires ready_instance { ReadyInstance base.names.now (base.words.now ++ work.old) binders.old room.old.top room.old.left sp fresh.tv fresh.dv scheme.vars scheme.preds scheme.ty }
-    ensures { GivesInstance base.entry.names.now (base.entry.words.now ++ work.old) (base.entry.words.now ++ work.new) binders.new room.old.top room.old.left sp fresh.tv fresh.dv scheme.vars scheme.preds scheme.ty (instance_of result room.new.top room.new.left) }
+    requires base_len_bound { length base.now.words.now ≤ 4 * room.old.top }
+    requires ready_instance { ReadyInstance base.now.names.now (base.now.words.now ++ work.old) binders.old room.old.top room.old.left sp fresh.tv fresh.dv scheme.vars scheme.preds scheme.ty }
+    ensures { GivesInstance base.now.names.now (base.now.words.now ++ work.old) (base.now.words.now ++ work.new) binders.new room.old.top room.old.left sp fresh.tv fresh.dv scheme.vars scheme.preds scheme.ty (instance_of result room.new.top room.new.left) }
 {
     let made = fresh.tv + ast::count_list(base, work, room.top, scheme.vars);
     let to = names::FRESH + fresh.tv;
@@ -112,7 +112,7 @@ pub fn instantiate(
 
 // The instance of the scheme of name x, and its term.
 fn of_scheme(
-    base: Base,
+    base: &Base,
     work: &mut [u64],
     room: &mut Room,
     methods: &[u64],
@@ -122,11 +122,11 @@ fn of_scheme(
     x: usize,
     scheme: Scheme,
 ) -> Result<Used, Refusal>
-    requires base_len_bound { length base.words.now ≤ 4 * room.old.top }
-    requires ready_instance { ReadyInstance base.names.now (base.words.now ++ work.old) binders.old room.old.top room.old.left sp fresh.tv fresh.dv scheme.vars scheme.preds scheme.ty }
+    requires base_len_bound { length base.now.words.now ≤ 4 * room.old.top }
+    requires ready_instance { ReadyInstance base.now.names.now (base.now.words.now ++ work.old) binders.old room.old.top room.old.left sp fresh.tv fresh.dv scheme.vars scheme.preds scheme.ty }
     requires x_lt_first_fresh { x < first_fresh }
-    ensures { GivesLooked (HasScheme (name_of base.entry.names.now x) (scheme_of_word base.entry.names.now (base.entry.words.now ++ work.old) scheme.vars scheme.preds scheme.ty)) base.entry.names.now
-        (base.entry.words.now ++ work.old) (base.entry.words.now ++ work.new) binders.new methods.now room.old.top room.old.left sp fresh.tv fresh.dv x (looked_of result room.new.top room.new.left) }
+    ensures { GivesLooked (HasScheme (name_of base.now.names.now x) (scheme_of_word base.now.names.now (base.now.words.now ++ work.old) scheme.vars scheme.preds scheme.ty)) base.now.names.now
+        (base.now.words.now ++ work.old) (base.now.words.now ++ work.new) binders.new methods.now room.old.top room.old.left sp fresh.tv fresh.dv x (looked_of result room.new.top room.new.left) }
 {
     let o = instantiate(base, work, room, binders, sp, fresh, scheme)?;
     let q = term::var_core(base, work, room, methods, binders, fresh.dv, o.rows, x);
@@ -143,7 +143,7 @@ fn of_scheme(
 
 // `infer_var`: an instance of the scheme of name number x, and the term that uses it.
 pub fn infer_var(
-    base: Base,
+    base: &Base,
     work: &mut [u64],
     room: &mut Room,
     methods: &[u64],
@@ -153,10 +153,10 @@ pub fn infer_var(
     fresh: Fresh,
     x: usize,
 ) -> Result<Used, Refusal>
-    requires base_len_bound { length base.words.now ≤ 4 * room.old.top }
-    requires ready_look { ReadyLook base.names.now (base.words.now ++ work.old) env.rows.now env.order.now binders.old room.old.top room.old.left sp fresh.tv fresh.dv x }
-    ensures { GivesLooked (Same (env_of base.entry.names.now (base.entry.words.now ++ work.old) env.entry.rows.now env.entry.order.now)) base.entry.names.now
-        (base.entry.words.now ++ work.old) (base.entry.words.now ++ work.new) binders.new methods.now room.old.top room.old.left sp fresh.tv fresh.dv x (looked_of result room.new.top room.new.left) }
+    requires base_len_bound { length base.now.words.now ≤ 4 * room.old.top }
+    requires ready_look { ReadyLook base.now.names.now (base.now.words.now ++ work.old) env.rows.now env.order.now binders.old room.old.top room.old.left sp fresh.tv fresh.dv x }
+    ensures { GivesLooked (Same (env_of base.now.names.now (base.now.words.now ++ work.old) env.entry.rows.now env.entry.order.now)) base.now.names.now
+        (base.now.words.now ++ work.old) (base.now.words.now ++ work.new) binders.new methods.now room.old.top room.old.left sp fresh.tv fresh.dv x (looked_of result room.new.top room.new.left) }
 {
     let e = scope::row_at(env.rows, x);
     match e {

@@ -20,7 +20,7 @@ fn first_of(binders: &[u64], m: usize, c: usize) -> Option<usize>
 
 // The list of the dictionaries of m rows, built from the last to the first.
 fn rows_list(
-    base: Base,
+    base: &Base,
     work: &mut [u64],
     room: &mut Room,
     binders: &[u64],
@@ -28,9 +28,9 @@ fn rows_list(
     m: usize,
     x: usize,
 ) -> usize
-    requires base_len_bound { length base.words.now ≤ 4 * room.old.top }
-    requires ready_core { ReadyCore base.names.now (base.words.now ++ work.old) binders.now room.old.top dv m x }
-    ensures lists { Lists (base.entry.words.now ++ work.old) (base.entry.words.now ++ work.new) binders.now room.old.top m result }
+    requires base_len_bound { length base.now.words.now ≤ 4 * room.old.top }
+    requires ready_core { ReadyCore base.now.names.now (base.now.words.now ++ work.old) binders.now room.old.top dv m x }
+    ensures lists { Lists (base.now.words.now ++ work.old) (base.now.words.now ++ work.new) binders.now room.old.top m result }
     ensures top { room.new.top ≡ room.old.top + m }
     ensures left { room.new.left ≡ room.old.left }
 {
@@ -46,7 +46,7 @@ fn rows_list(
 
 // The term of name x over m rows: a method of the first row of its class, or the name applied to all of them.
 pub fn var_core(
-    base: Base,
+    base: &Base,
     work: &mut [u64],
     room: &mut Room,
     methods: &[u64],
@@ -55,9 +55,9 @@ pub fn var_core(
     m: usize,
     x: usize,
 ) -> Option<usize>
-    requires base_len_bound { length base.words.now ≤ 4 * room.old.top }
-    requires ready_core { ReadyCore base.names.now (base.words.now ++ work.old) binders.now room.old.top dv m x }
-    ensures gives { GivesCored base.entry.names.now (base.entry.words.now ++ work.old) (base.entry.words.now ++ work.new) binders.now methods.now room.old.top m x (cored_of result room.new.top) }
+    requires base_len_bound { length base.now.words.now ≤ 4 * room.old.top }
+    requires ready_core { ReadyCore base.now.names.now (base.now.words.now ++ work.old) binders.now room.old.top dv m x }
+    ensures gives { GivesCored base.now.names.now (base.now.words.now ++ work.old) (base.now.words.now ++ work.new) binders.now methods.now room.old.top m x (cored_of result room.new.top) }
     ensures none_stays { result ≡ None → room.new.top ≡ room.old.top }
     ensures left { room.new.left ≡ room.old.left }
 {

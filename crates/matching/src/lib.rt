@@ -19,7 +19,7 @@ use errors::Refusal;
 // The arguments of a pattern, after the pairs.
 #[cycle(match_arrow_match_cons_match_one_match_ty_match_zip)]
 fn match_zip(
-    base: Base,
+    base: &Base,
     work: &mut [u64],
     room: &mut Room,
     depth: usize,
@@ -27,10 +27,10 @@ fn match_zip(
     xs: usize,
     ys: usize,
 ) -> Result<usize, Refusal>
-    requires base_len_bound { length base.words.now ≤ 4 * room.old.top }
-    requires ready_one { ReadyOne base.names.now (base.words.now ++ work.old) room.old.top room.old.left end.hi end.k xs ys }
-    ensures { GivesU 0 (2 * end.k) base.entry.names.now (base.entry.words.now ++ work.old) (base.entry.words.now ++ work.new) room.old.top room.old.left end.hi
-        (U.match_zip (λ a b. U.match_in depth a b) (list base.entry.names.now (base.entry.words.now ++ work.old) xs) (list base.entry.names.now (base.entry.words.now ++ work.old) ys) (sub_at base.entry.names.now (base.entry.words.now ++ work.old) (end.hi - 2 * end.k) end.k) room.old.left) (applied_of result room.new.top room.new.left) }
+    requires base_len_bound { length base.now.words.now ≤ 4 * room.old.top }
+    requires ready_one { ReadyOne base.now.names.now (base.now.words.now ++ work.old) room.old.top room.old.left end.hi end.k xs ys }
+    ensures { GivesU 0 (2 * end.k) base.now.names.now (base.now.words.now ++ work.old) (base.now.words.now ++ work.new) room.old.top room.old.left end.hi
+        (U.match_zip (λ a b. U.match_in depth a b) (list base.now.names.now (base.now.words.now ++ work.old) xs) (list base.now.names.now (base.now.words.now ++ work.old) ys) (sub_at base.now.names.now (base.now.words.now ++ work.old) (end.hi - 2 * end.k) end.k) room.old.left) (applied_of result room.new.top room.new.left) }
 {
     let p = ast::cell_at(base, work, xs);
     let q = ast::cell_at(base, work, ys);
@@ -57,7 +57,7 @@ fn match_zip(
 // One pair of types, merged into the pairs.
 #[cycle(match_arrow_match_cons_match_one_match_ty_match_zip)]
 fn match_one(
-    base: Base,
+    base: &Base,
     work: &mut [u64],
     room: &mut Room,
     depth: usize,
@@ -65,10 +65,10 @@ fn match_one(
     x: usize,
     y: usize,
 ) -> Result<usize, Refusal>
-    requires base_len_bound { length base.words.now ≤ 4 * room.old.top }
-    requires ready_one { ReadyOne base.names.now (base.words.now ++ work.old) room.old.top room.old.left end.hi end.k x y }
-    ensures { GivesU 1 (2 * end.k) base.entry.names.now (base.entry.words.now ++ work.old) (base.entry.words.now ++ work.new) room.old.top room.old.left end.hi
-        (match_one (λ a b. U.match_in depth a b) (sub_at base.entry.names.now (base.entry.words.now ++ work.old) (end.hi - 2 * end.k) end.k) (tree base.entry.names.now (base.entry.words.now ++ work.old) x) (tree base.entry.names.now (base.entry.words.now ++ work.old) y) room.old.left) (applied_of result room.new.top room.new.left) }
+    requires base_len_bound { length base.now.words.now ≤ 4 * room.old.top }
+    requires ready_one { ReadyOne base.now.names.now (base.now.words.now ++ work.old) room.old.top room.old.left end.hi end.k x y }
+    ensures { GivesU 1 (2 * end.k) base.now.names.now (base.now.words.now ++ work.old) (base.now.words.now ++ work.new) room.old.top room.old.left end.hi
+        (match_one (λ a b. U.match_in depth a b) (sub_at base.now.names.now (base.now.words.now ++ work.old) (end.hi - 2 * end.k) end.k) (tree base.now.names.now (base.now.words.now ++ work.old) x) (tree base.now.names.now (base.now.words.now ++ work.old) y) room.old.left) (applied_of result room.new.top room.new.left) }
 {
     let k2 = match_ty(base, work, room, depth, end.hi - 2 * end.k, x, y)?;
     let lo = end.hi - 2 * end.k - 2 * k2;
@@ -78,7 +78,7 @@ fn match_one(
 // Two constructors of types s and t: one name and as many arguments, or 12.
 #[cycle(match_arrow_match_cons_match_one_match_ty_match_zip)]
 fn match_cons(
-    base: Base,
+    base: &Base,
     work: &mut [u64],
     room: &mut Room,
     depth: usize,
@@ -90,11 +90,11 @@ fn match_cons(
     d: usize,
     ys: usize,
 ) -> Result<usize, Refusal>
-    requires base_len_bound { length base.words.now ≤ 4 * room.old.top }
-    requires ready_u { ReadyU base.names.now (base.words.now ++ work.old) room.old.top room.old.left sp s t }
-    requires shapes { Shapes (base.words.now ++ work.old) s t c xs d ys }
-    ensures { GivesU 0 0 base.entry.names.now (base.entry.words.now ++ work.old) (base.entry.words.now ++ work.new) room.old.top room.old.left sp
-        (U.match_node (λ a b. U.match_in depth a b) (tree base.entry.names.now (base.entry.words.now ++ work.old) s) (tree base.entry.names.now (base.entry.words.now ++ work.old) t) room.old.left) (applied_of result room.new.top room.new.left) }
+    requires base_len_bound { length base.now.words.now ≤ 4 * room.old.top }
+    requires ready_u { ReadyU base.now.names.now (base.now.words.now ++ work.old) room.old.top room.old.left sp s t }
+    requires shapes { Shapes (base.now.words.now ++ work.old) s t c xs d ys }
+    ensures { GivesU 0 0 base.now.names.now (base.now.words.now ++ work.old) (base.now.words.now ++ work.new) room.old.top room.old.left sp
+        (U.match_node (λ a b. U.match_in depth a b) (tree base.now.names.now (base.now.words.now ++ work.old) s) (tree base.now.names.now (base.now.words.now ++ work.old) t) room.old.left) (applied_of result room.new.top room.new.left) }
 {
     if c != d {
         return Err(Refusal::UnificationFailure(s, t));
@@ -110,7 +110,7 @@ fn match_cons(
 // Two arrows: the left sides, then the right sides, then both merged.
 #[cycle(match_arrow_match_cons_match_one_match_ty_match_zip)]
 fn match_arrow(
-    base: Base,
+    base: &Base,
     work: &mut [u64],
     room: &mut Room,
     depth: usize,
@@ -120,10 +120,10 @@ fn match_arrow(
     c: usize,
     d: usize,
 ) -> Result<usize, Refusal>
-    requires base_len_bound { length base.words.now ≤ 4 * room.old.top }
-    requires ready_arrow { ReadyArrow base.names.now (base.words.now ++ work.old) room.old.top room.old.left sp a b c d }
-    ensures { GivesU 0 0 base.entry.names.now (base.entry.words.now ++ work.old) (base.entry.words.now ++ work.new) room.old.top room.old.left sp
-        (match_arrow (λ x y. U.match_in depth x y) (tree base.entry.names.now (base.entry.words.now ++ work.old) a) (tree base.entry.names.now (base.entry.words.now ++ work.old) b) (tree base.entry.names.now (base.entry.words.now ++ work.old) c) (tree base.entry.names.now (base.entry.words.now ++ work.old) d) room.old.left) (applied_of result room.new.top room.new.left) }
+    requires base_len_bound { length base.now.words.now ≤ 4 * room.old.top }
+    requires ready_arrow { ReadyArrow base.now.names.now (base.now.words.now ++ work.old) room.old.top room.old.left sp a b c d }
+    ensures { GivesU 0 0 base.now.names.now (base.now.words.now ++ work.old) (base.now.words.now ++ work.new) room.old.top room.old.left sp
+        (match_arrow (λ x y. U.match_in depth x y) (tree base.now.names.now (base.now.words.now ++ work.old) a) (tree base.now.names.now (base.now.words.now ++ work.old) b) (tree base.now.names.now (base.now.words.now ++ work.old) c) (tree base.now.names.now (base.now.words.now ++ work.old) d) room.old.left) (applied_of result room.new.top room.new.left) }
 {
     let k = match_ty(base, work, room, depth, sp, a, c)?;
     match_one(base, work, room, depth, Ending { hi: sp, k }, b, d)
@@ -132,7 +132,7 @@ fn match_arrow(
 // `match_ty`: the pattern s against the type t, as pairs that end at sp, where the stack ends.
 #[cycle(match_arrow_match_cons_match_one_match_ty_match_zip)]
 pub fn match_ty(
-    base: Base,
+    base: &Base,
     work: &mut [u64],
     room: &mut Room,
     depth: usize,
@@ -140,10 +140,10 @@ pub fn match_ty(
     s: usize,
     t: usize,
 ) -> Result<usize, Refusal>
-    requires base_len_bound { length base.words.now ≤ 4 * room.old.top }
-    requires ready_u { ReadyU base.names.now (base.words.now ++ work.old) room.old.top room.old.left sp s t }
-    ensures { GivesU 1 0 base.entry.names.now (base.entry.words.now ++ work.old) (base.entry.words.now ++ work.new) room.old.top room.old.left sp
-        (U.match_in depth (tree base.entry.names.now (base.entry.words.now ++ work.old) s) (tree base.entry.names.now (base.entry.words.now ++ work.old) t) room.old.left) (applied_of result room.new.top room.new.left) }
+    requires base_len_bound { length base.now.words.now ≤ 4 * room.old.top }
+    requires ready_u { ReadyU base.now.names.now (base.now.words.now ++ work.old) room.old.top room.old.left sp s t }
+    ensures { GivesU 1 0 base.now.names.now (base.now.words.now ++ work.old) (base.now.words.now ++ work.new) room.old.top room.old.left sp
+        (U.match_in depth (tree base.now.names.now (base.now.words.now ++ work.old) s) (tree base.now.names.now (base.now.words.now ++ work.old) t) room.old.left) (applied_of result room.new.top room.new.left) }
 {
     if depth == 0 {
         return Err(Refusal::Depth);
@@ -176,7 +176,7 @@ pub fn match_ty(
 
 // `match_pred`: a head of class c at s against a goal of class d at t.
 pub fn match_pred(
-    base: Base,
+    base: &Base,
     work: &mut [u64],
     room: &mut Room,
     sp: usize,
@@ -185,11 +185,11 @@ pub fn match_pred(
     d: usize,
     t: usize,
 ) -> Result<usize, Refusal>
-    requires base_len_bound { length base.words.now ≤ 4 * room.old.top }
-    requires ready_u { ReadyU base.names.now (base.words.now ++ work.old) room.old.top room.old.left sp s t }
+    requires base_len_bound { length base.now.words.now ≤ 4 * room.old.top }
+    requires ready_u { ReadyU base.now.names.now (base.now.words.now ++ work.old) room.old.top room.old.left sp s t }
     requires classes { Classes c d }
-    ensures { GivesU 0 0 base.entry.names.now (base.entry.words.now ++ work.old) (base.entry.words.now ++ work.new) room.old.top room.old.left sp
-        (U.match_pred (pred (name_of base.entry.names.now c) (tree base.entry.names.now (base.entry.words.now ++ work.old) s)) (pred (name_of base.entry.names.now d) (tree base.entry.names.now (base.entry.words.now ++ work.old) t)) room.old.left) (applied_of result room.new.top room.new.left) }
+    ensures { GivesU 0 0 base.now.names.now (base.now.words.now ++ work.old) (base.now.words.now ++ work.new) room.old.top room.old.left sp
+        (U.match_pred (pred (name_of base.now.names.now c) (tree base.now.names.now (base.now.words.now ++ work.old) s)) (pred (name_of base.now.names.now d) (tree base.now.names.now (base.now.words.now ++ work.old) t)) room.old.left) (applied_of result room.new.top room.new.left) }
 {
     if c != d {
         return Err(Refusal::UnificationFailure(names::NULLARY + c, names::NULLARY + d));

@@ -142,7 +142,8 @@ fn item(file: File, at: usize, n: Counts, k: Row) -> Result<usize, Refusal>
     }
 }
 
-// A list: its count, at most 64, then its items.
+// A list: its count, at most 64, then its items. (Inlined always: each kind of item has its own loop, which tests no kind.)
+#[inline(always)]
 pub fn list(file: File, at: usize, n: Counts, k: Row) -> Result<usize, Refusal>
     requires names_bound { n.names ≤ 1024 }
     requires in_bounds { 2048 ≤ length file.index.now }

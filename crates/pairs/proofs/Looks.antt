@@ -44,7 +44,7 @@ pub record Looking (w : List ℕ) (at k x i j : ℕ) : Type 0 where
   pub ends : i + 2 * j ≡ at + 2 * k
   pub finds : find_at w i j x ≡ find_at w at k x
 
--- Some first all are left.
+-- At first all are left.
 pub looking : {w : List ℕ} {at k x : ℕ} → Looking w at k x at k
 looking = record { ends = refl; finds = refl }
 

@@ -23,10 +23,10 @@ impl Subst {
     }
 
     // One pair, written just below where the stack ends: the variable of word v becomes the type t.
-    pub fn singleton(base: Base, work: &mut [u64], sp: usize, v: usize, t: usize) -> Subst
-        requires base_len_bound { length base.words.now + 2 ≤ sp }
-        requires sp_in_bounds { sp ≤ length (base.words.now ++ work.old) }
-        ensures { Single (base.entry.words.now ++ work.old) (base.entry.words.now ++ work.new) sp v t result.at result.k }
+    pub fn singleton(base: &Base, work: &mut [u64], sp: usize, v: usize, t: usize) -> Subst
+        requires base_len_bound { length base.now.words.now + 2 ≤ sp }
+        requires sp_in_bounds { sp ≤ length (base.now.words.now ++ work.old) }
+        ensures { Single (base.now.words.now ++ work.old) (base.now.words.now ++ work.new) sp v t result.at result.k }
     {
         put(base, work, sp - 2, v);
         put(base, work, sp - 1, t);
@@ -35,9 +35,9 @@ impl Subst {
 }
 
 // The type that the pairs have for the variable of word x.
-pub fn find(base: Base, work: &[u64], sub: Subst, x: usize) -> Option<usize>
-    requires { sub.at + 2 * sub.k ≤ length (base.words.now ++ work.now) }
-    ensures { result ≡ find_at (base.entry.words.now ++ work.now) sub.at sub.k x }
+pub fn find(base: &Base, work: &[u64], sub: Subst, x: usize) -> Option<usize>
+    requires { sub.at + 2 * sub.k ≤ length (base.now.words.now ++ work.now) }
+    ensures { result ≡ find_at (base.now.words.now ++ work.now) sub.at sub.k x }
 {
     for j in 0..sub.k {
         let i = sub.at + 2 * j;
@@ -49,10 +49,10 @@ pub fn find(base: Base, work: &[u64], sub: Subst, x: usize) -> Option<usize>
 }
 
 // Writes a word of the lent buffer, by its place among all words.
-pub fn put(base: Base, work: &mut [u64], i: usize, v: usize)
-    requires base_len_bound { length base.words.now ≤ i }
-    requires i_in_bounds { i < length (base.words.now ++ work.old) }
-    ensures { base.entry.words.now ++ work.new ≡ set (base.entry.words.now ++ work.old) i v }
+pub fn put(base: &Base, work: &mut [u64], i: usize, v: usize)
+    requires base_len_bound { length base.now.words.now ≤ i }
+    requires i_in_bounds { i < length (base.now.words.now ++ work.old) }
+    ensures { base.now.words.now ++ work.new ≡ set (base.now.words.now ++ work.old) i v }
 {
     let j = i - base.words.len();
     work[j] = v as u64;

@@ -29,16 +29,16 @@ pub fn put_row(binders: &mut [u64], i: usize, d: u64, c: u64, x: u64)
 
 // The pairs applied to the type of row i.
 fn apply_row(
-    base: Base,
+    base: &Base,
     work: &mut [u64],
     room: &mut Room,
     binders: &mut [u64],
     sub: Subst,
     i: usize,
 ) -> Result<(), Refusal>
-    requires base_len_bound { length base.words.now ≤ 4 * room.old.top }
-    requires ready_sweep { ReadySweep base.names.now (base.words.now ++ work.old) binders.old room.old.top room.old.left sub.at sub.k i (i + 1) }
-    ensures { GivesSwept base.entry.names.now (base.entry.words.now ++ work.old) (base.entry.words.now ++ work.new)
+    requires base_len_bound { length base.now.words.now ≤ 4 * room.old.top }
+    requires ready_sweep { ReadySweep base.now.names.now (base.now.words.now ++ work.old) binders.old room.old.top room.old.left sub.at sub.k i (i + 1) }
+    ensures { GivesSwept base.now.names.now (base.now.words.now ++ work.old) (base.now.words.now ++ work.new)
         binders.old binders.new room.old.top room.old.left sub.at sub.k i (i + 1) (swept_of result room.new.top room.new.left) }
 {
     let q = supers::rows::row_at(binders, i);
@@ -52,16 +52,16 @@ fn apply_row(
 
 // `apply_preds_pending`: the pairs applied to the types of the first n rows, in order.
 pub fn apply_rows(
-    base: Base,
+    base: &Base,
     work: &mut [u64],
     room: &mut Room,
     binders: &mut [u64],
     sub: Subst,
     n: usize,
 ) -> Result<(), Refusal>
-    requires base_len_bound { length base.words.now ≤ 4 * room.old.top }
-    requires ready_sweep { ReadySweep base.names.now (base.words.now ++ work.old) binders.old room.old.top room.old.left sub.at sub.k 0 n }
-    ensures { GivesRows base.entry.names.now (base.entry.words.now ++ work.old) (base.entry.words.now ++ work.new)
+    requires base_len_bound { length base.now.words.now ≤ 4 * room.old.top }
+    requires ready_sweep { ReadySweep base.now.names.now (base.now.words.now ++ work.old) binders.old room.old.top room.old.left sub.at sub.k 0 n }
+    ensures { GivesRows base.now.names.now (base.now.words.now ++ work.old) (base.now.words.now ++ work.new)
         binders.old binders.new room.old.top room.old.left sub.at sub.k n (swept_of result room.new.top room.new.left) }
 {
     for i in 0..n {

@@ -16,13 +16,13 @@ use scope::Env;
 use supers::rows::Row;
 
 // Whether the type t has the variable of word x or the environment has it not.
-fn has_own(base: Base, work: &[u64], env: Env, top: usize, t: usize, x: usize) -> bool
-    requires names { Names base.names.now }
-    requires scope { Scope base.names.now (base.words.now ++ work.now) env.rows.now env.order.now top }
-    requires node { Node (base.words.now ++ work.now) top t }
-    ensures { result ≡ owns (ftv_type (tree base.entry.names.now (base.entry.words.now ++ work.now) t) [])
-        (env_ftv (env_of base.entry.names.now (base.entry.words.now ++ work.now) env.entry.rows.now env.entry.order.now))
-        (var (tyvar_of base.entry.names.now x)) }
+fn has_own(base: &Base, work: &[u64], env: Env, top: usize, t: usize, x: usize) -> bool
+    requires names { Names base.now.names.now }
+    requires scope { Scope base.now.names.now (base.now.words.now ++ work.now) env.rows.now env.order.now top }
+    requires node { Node (base.now.words.now ++ work.now) top t }
+    ensures { result ≡ owns (ftv_type (tree base.now.names.now (base.now.words.now ++ work.now) t) [])
+        (env_ftv (env_of base.now.names.now (base.now.words.now ++ work.now) env.entry.rows.now env.entry.order.now))
+        (var (tyvar_of base.now.names.now x)) }
 {
     if ast::occurs_in(base, work, top, x, t) {
         return true;
@@ -33,14 +33,14 @@ fn has_own(base: Base, work: &[u64], env: Env, top: usize, t: usize, x: usize) -
 
 // Whether a residual predicate at the type u stays with a binding of type t: u is a variable that t has or that the environment
 // has not. No residual predicate is at another type.
-pub fn is_own(base: Base, work: &[u64], env: Env, top: usize, t: usize, u: usize) -> bool
-    requires names { Names base.names.now }
-    requires scope { Scope base.names.now (base.words.now ++ work.now) env.rows.now env.order.now top }
-    requires node { Node (base.words.now ++ work.now) top t }
-    requires node_2 { Node (base.words.now ++ work.now) top u }
-    ensures { result ≡ owns (ftv_type (tree base.entry.names.now (base.entry.words.now ++ work.now) t) [])
-        (env_ftv (env_of base.entry.names.now (base.entry.words.now ++ work.now) env.entry.rows.now env.entry.order.now))
-        (tree base.entry.names.now (base.entry.words.now ++ work.now) u) }
+pub fn is_own(base: &Base, work: &[u64], env: Env, top: usize, t: usize, u: usize) -> bool
+    requires names { Names base.now.names.now }
+    requires scope { Scope base.now.names.now (base.now.words.now ++ work.now) env.rows.now env.order.now top }
+    requires node { Node (base.now.words.now ++ work.now) top t }
+    requires node_2 { Node (base.now.words.now ++ work.now) top u }
+    ensures { result ≡ owns (ftv_type (tree base.now.names.now (base.now.words.now ++ work.now) t) [])
+        (env_ftv (env_of base.now.names.now (base.now.words.now ++ work.now) env.entry.rows.now env.entry.order.now))
+        (tree base.now.names.now (base.now.words.now ++ work.now) u) }
 {
     let s = ast::shape_at(base, work, u);
     match s {
@@ -52,7 +52,7 @@ pub fn is_own(base: Base, work: &[u64], env: Env, top: usize, t: usize, u: usize
 
 // The dictionary's number of row j, if that is pending with class c at the type u.
 fn equal_row(
-    base: Base,
+    base: &Base,
     work: &[u64],
     binders: &[u64],
     top: usize,
@@ -60,11 +60,11 @@ fn equal_row(
     c: usize,
     u: usize,
 ) -> Option<usize>
-    requires names { Names base.names.now }
-    requires binders { Binders (base.words.now ++ work.now) binders.now top (j + 1) }
-    requires node { Node (base.words.now ++ work.now) top u }
-    ensures { FindsEarlier (binders_in base.entry.names.now (base.entry.words.now ++ work.now) binders.now j (j + 1))
-        (pred (name_of base.entry.names.now c) (tree base.entry.names.now (base.entry.words.now ++ work.now) u)) result }
+    requires names { Names base.now.names.now }
+    requires binders { Binders (base.now.words.now ++ work.now) binders.now top (j + 1) }
+    requires node { Node (base.now.words.now ++ work.now) top u }
+    ensures { FindsEarlier (binders_in base.now.names.now (base.now.words.now ++ work.now) binders.now j (j + 1))
+        (pred (name_of base.now.names.now c) (tree base.now.names.now (base.now.words.now ++ work.now) u)) result }
 {
     let q = supers::rows::row_at(binders, j);
     let Row::Pending(d, b, t) = q else {
@@ -81,7 +81,7 @@ fn equal_row(
 
 // The dictionary's number of the first pending row before number i with class c at the type u.
 fn earlier(
-    base: Base,
+    base: &Base,
     work: &[u64],
     binders: &[u64],
     top: usize,
@@ -89,11 +89,11 @@ fn earlier(
     c: usize,
     u: usize,
 ) -> Option<usize>
-    requires names { Names base.names.now }
-    requires binders { Binders (base.words.now ++ work.now) binders.now top i }
-    requires node { Node (base.words.now ++ work.now) top u }
-    ensures { FindsEarlier (binders_in base.entry.names.now (base.entry.words.now ++ work.now) binders.now 0 i)
-        (pred (name_of base.entry.names.now c) (tree base.entry.names.now (base.entry.words.now ++ work.now) u)) result }
+    requires names { Names base.now.names.now }
+    requires binders { Binders (base.now.words.now ++ work.now) binders.now top i }
+    requires node { Node (base.now.words.now ++ work.now) top u }
+    ensures { FindsEarlier (binders_in base.now.names.now (base.now.words.now ++ work.now) binders.now 0 i)
+        (pred (name_of base.now.names.now c) (tree base.now.names.now (base.now.words.now ++ work.now) u)) result }
 {
     for j in 0..i {
         let q = equal_row(base, work, binders, top, j, c, u);
@@ -117,7 +117,7 @@ fn pick(own: bool, e: usize, d: usize) -> usize
 // Row i: where an earlier row has its predicate, it is replaced by the name of the first such row if it is the binding's own,
 // else by its own name.
 fn settle_row(
-    base: Base,
+    base: &Base,
     work: &[u64],
     env: Env,
     binders: &mut [u64],
@@ -125,10 +125,10 @@ fn settle_row(
     i: usize,
     t: usize,
 )
-    requires { ReadyOwn base.names.now (base.words.now ++ work.now) env.rows.now env.order.now binders.old top (i + 1) t }
-    ensures { GivesSettled (ftv_type (tree base.entry.names.now (base.entry.words.now ++ work.now) t) [])
-        (env_ftv (env_of base.entry.names.now (base.entry.words.now ++ work.now) env.entry.rows.now env.entry.order.now))
-        base.entry.names.now (base.entry.words.now ++ work.now) binders.old binders.new i }
+    requires { ReadyOwn base.now.names.now (base.now.words.now ++ work.now) env.rows.now env.order.now binders.old top (i + 1) t }
+    ensures { GivesSettled (ftv_type (tree base.now.names.now (base.now.words.now ++ work.now) t) [])
+        (env_ftv (env_of base.now.names.now (base.now.words.now ++ work.now) env.entry.rows.now env.entry.order.now))
+        base.now.names.now (base.now.words.now ++ work.now) binders.old binders.new i }
 {
     let q = supers::rows::row_at(binders, i);
     let Row::Pending(d, c, u) = q else {
@@ -151,7 +151,7 @@ fn settle_row(
 
 // Of the first n rows that are pending with equal predicates the first stays, and the others are replaced.
 pub fn alias_rows(
-    base: Base,
+    base: &Base,
     work: &[u64],
     env: Env,
     binders: &mut [u64],
@@ -159,10 +159,10 @@ pub fn alias_rows(
     n: usize,
     t: usize,
 )
-    requires { ReadyOwn base.names.now (base.words.now ++ work.now) env.rows.now env.order.now binders.old top n t }
-    ensures { GivesAliased (ftv_type (tree base.entry.names.now (base.entry.words.now ++ work.now) t) [])
-        (env_ftv (env_of base.entry.names.now (base.entry.words.now ++ work.now) env.entry.rows.now env.entry.order.now))
-        base.entry.names.now (base.entry.words.now ++ work.now) binders.old binders.new n }
+    requires { ReadyOwn base.now.names.now (base.now.words.now ++ work.now) env.rows.now env.order.now binders.old top n t }
+    ensures { GivesAliased (ftv_type (tree base.now.names.now (base.now.words.now ++ work.now) t) [])
+        (env_ftv (env_of base.now.names.now (base.now.words.now ++ work.now) env.entry.rows.now env.entry.order.now))
+        base.now.names.now (base.now.words.now ++ work.now) binders.old binders.new n }
 {
     for i in 0..n {
         settle_row(base, work, env, binders, top, i, t);
@@ -171,7 +171,7 @@ pub fn alias_rows(
 
 // Whether row i is pending and is not the binding's own.
 fn is_late(
-    base: Base,
+    base: &Base,
     work: &[u64],
     env: Env,
     binders: &[u64],
@@ -179,10 +179,10 @@ fn is_late(
     i: usize,
     t: usize,
 ) -> bool
-    requires { ReadyOwn base.names.now (base.words.now ++ work.now) env.rows.now env.order.now binders.now top (i + 1) t }
-    ensures { result ≡ late_row (ftv_type (tree base.entry.names.now (base.entry.words.now ++ work.now) t) [])
-        (env_ftv (env_of base.entry.names.now (base.entry.words.now ++ work.now) env.entry.rows.now env.entry.order.now))
-        base.entry.names.now (base.entry.words.now ++ work.now) (row_at binders.now i) }
+    requires { ReadyOwn base.now.names.now (base.now.words.now ++ work.now) env.rows.now env.order.now binders.now top (i + 1) t }
+    ensures { result ≡ late_row (ftv_type (tree base.now.names.now (base.now.words.now ++ work.now) t) [])
+        (env_ftv (env_of base.now.names.now (base.now.words.now ++ work.now) env.entry.rows.now env.entry.order.now))
+        base.now.names.now (base.now.words.now ++ work.now) (row_at binders.now i) }
 {
     let q = supers::rows::row_at(binders, i);
     let Row::Pending(_, _, u) = q else {
@@ -194,7 +194,7 @@ fn is_late(
 
 // Row i: where it is deferred, it moves to number nd, behind those that were deferred before it.
 fn defer_row(
-    base: Base,
+    base: &Base,
     work: &[u64],
     env: Env,
     binders: &mut [u64],
@@ -204,10 +204,10 @@ fn defer_row(
     t: usize,
 ) -> usize
     requires nd_le_i { nd ≤ i }
-    requires ready_own { ReadyOwn base.names.now (base.words.now ++ work.now) env.rows.now env.order.now binders.old top (i + 1) t }
-    ensures { GivesLate (late_row (ftv_type (tree base.entry.names.now (base.entry.words.now ++ work.now) t) [])
-        (env_ftv (env_of base.entry.names.now (base.entry.words.now ++ work.now) env.entry.rows.now env.entry.order.now))
-        base.entry.names.now (base.entry.words.now ++ work.now) (row_at binders.old i)) binders.old binders.new nd i result }
+    requires ready_own { ReadyOwn base.now.names.now (base.now.words.now ++ work.now) env.rows.now env.order.now binders.old top (i + 1) t }
+    ensures { GivesLate (late_row (ftv_type (tree base.now.names.now (base.now.words.now ++ work.now) t) [])
+        (env_ftv (env_of base.now.names.now (base.now.words.now ++ work.now) env.entry.rows.now env.entry.order.now))
+        base.now.names.now (base.now.words.now ++ work.now) (row_at binders.old i)) binders.old binders.new nd i result }
 {
     let late = is_late(base, work, env, binders, top, i, t);
     if late {
@@ -220,7 +220,7 @@ fn defer_row(
 // Of the first n rows those that are deferred come to the front, in their order, and all others follow in theirs. Gives how
 // many are deferred.
 pub fn defer_rows(
-    base: Base,
+    base: &Base,
     work: &[u64],
     env: Env,
     binders: &mut [u64],
@@ -228,10 +228,10 @@ pub fn defer_rows(
     n: usize,
     t: usize,
 ) -> usize
-    requires { ReadyOwn base.names.now (base.words.now ++ work.now) env.rows.now env.order.now binders.old top n t }
-    ensures { GivesDeferred (ftv_type (tree base.entry.names.now (base.entry.words.now ++ work.now) t) [])
-        (env_ftv (env_of base.entry.names.now (base.entry.words.now ++ work.now) env.entry.rows.now env.entry.order.now))
-        base.entry.names.now (base.entry.words.now ++ work.now) binders.old binders.new n result }
+    requires { ReadyOwn base.now.names.now (base.now.words.now ++ work.now) env.rows.now env.order.now binders.old top n t }
+    ensures { GivesDeferred (ftv_type (tree base.now.names.now (base.now.words.now ++ work.now) t) [])
+        (env_ftv (env_of base.now.names.now (base.now.words.now ++ work.now) env.entry.rows.now env.entry.order.now))
+        base.now.names.now (base.now.words.now ++ work.now) binders.old binders.new n result }
 {
     let mut nd: usize = 0;
     for i in 0..n {

@@ -81,12 +81,12 @@ fn row_of(p: usize) -> Primitive
 }
 
 // The type of so many arguments of type a and a result of type b, as new nodes from top on; its word.
-fn make_type(base: Base, work: &mut [u64], top: usize, a: usize, many: usize, b: usize) -> usize
-    requires base_len_bound { length base.words.now ≤ 4 * top }
-    requires node { Node (base.words.now ++ work.old) top a }
-    requires node_2 { Node (base.words.now ++ work.old) top b }
-    requires many_in_bounds { 4 * (top + many) ≤ length (base.words.now ++ work.old) }
-    ensures { TypeMade (base.entry.words.now ++ work.old) (base.entry.words.now ++ work.new) top many a b result }
+fn make_type(base: &Base, work: &mut [u64], top: usize, a: usize, many: usize, b: usize) -> usize
+    requires base_len_bound { length base.now.words.now ≤ 4 * top }
+    requires node { Node (base.now.words.now ++ work.old) top a }
+    requires node_2 { Node (base.now.words.now ++ work.old) top b }
+    requires many_in_bounds { 4 * (top + many) ≤ length (base.now.words.now ++ work.old) }
+    ensures { TypeMade (base.now.words.now ++ work.old) (base.now.words.now ++ work.new) top many a b result }
 {
     let mut t = b;
     for i in 0..many {
@@ -99,16 +99,16 @@ fn make_type(base: Base, work: &mut [u64], top: usize, a: usize, many: usize, b:
 
 // Makes the type of the p-th primitive and writes the row of its name; the first free node.
 fn add_one(
-    base: Base,
+    base: &Base,
     work: &mut [u64],
     env: &mut [u64],
     order: &[u64],
     top: usize,
     p: usize,
 ) -> usize
-    requires base_len_bound { length base.words.now ≤ 4 * top }
-    requires ready_one { ReadyOne base.names.now (base.words.now ++ work.old) env.old order.now top p }
-    ensures { GivesOne base.entry.names.now (base.entry.words.now ++ work.old) (base.entry.words.now ++ work.new) env.old env.new order.now top p result }
+    requires base_len_bound { length base.now.words.now ≤ 4 * top }
+    requires ready_one { ReadyOne base.now.names.now (base.now.words.now ++ work.old) env.old order.now top p }
+    ensures { GivesOne base.now.names.now (base.now.words.now ++ work.old) (base.now.words.now ++ work.new) env.old env.new order.now top p result }
 {
     let r = row_of(p);
     let a = names::NULLARY + r.argument;
@@ -125,15 +125,15 @@ fn add_one(
 
 // `add_primitives`: fills an environment without schemes with those of the primitives; the first free node.
 pub fn add_primitives(
-    base: Base,
+    base: &Base,
     work: &mut [u64],
     env: &mut [u64],
     order: &[u64],
     top: usize,
 ) -> usize
-    requires base_len_bound { length base.words.now ≤ 4 * top }
-    requires ready_prims { ReadyPrims base.names.now (base.words.now ++ work.old) env.old order.now top }
-    ensures { GivesPrims base.entry.names.now (base.entry.words.now ++ work.old) (base.entry.words.now ++ work.new) env.old env.new order.now top result }
+    requires base_len_bound { length base.now.words.now ≤ 4 * top }
+    requires ready_prims { ReadyPrims base.now.names.now (base.now.words.now ++ work.old) env.old order.now top }
+    ensures { GivesPrims base.now.names.now (base.now.words.now ++ work.old) (base.now.words.now ++ work.new) env.old env.new order.now top result }
 {
     let mut t = top;
     for p in 0..7 {

@@ -86,12 +86,9 @@ pub one_byte : (bytes : List ℕ) (at v : ℕ) → v ≡ get_or bytes at 0 → v
 unfolding text little
 one_byte bytes at v e = omega arith
 
-pub two_bytes : (bytes part : List ℕ) (at v : ℕ) → part ≡ slice_range bytes at (length bytes) → at + 2 ≤ length bytes → v ≡ from_le_bytes w16 part → v ≡ little (text bytes at 2)
+pub two_bytes : (bytes : List ℕ) (at v : ℕ) → v ≡ from_le_bytes w16 (get_or bytes at 0 ∷ get_or bytes (at + 1) 0 ∷ []) → v ≡ little (text bytes at 2)
 unfolding text little
-two_bytes bytes part at v p h e =
-    let a = part_byte bytes part at 0 at p (omega arith) (omega arith) in
-    let b = part_byte bytes part at 1 (at + 1) p (omega arith) (omega arith) in
-    omega (arith, e, a, b)
+two_bytes bytes at v e = omega (arith, e)
 
 pub eight_bytes : (bytes part : List ℕ) (at v : ℕ) → part ≡ slice_range bytes at (length bytes) → at + 8 ≤ length bytes → v ≡ from_le_bytes w64 part → v ≡ little (text bytes at 8)
 unfolding text little

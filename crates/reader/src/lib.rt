@@ -14,14 +14,15 @@ pub fn byte(src: &[u8], at: usize) -> Option<usize>
     Some(usize::from(*b))
 }
 
-// The field of two bytes, the least one first.
+// The field of two bytes, the least one first. (One test of the place: `get` and a pattern take two, in each loop over a list.)
 pub fn number(src: &[u8], at: usize) -> Option<usize>
     ensures { IsField 2 src.now at result }
 {
-    match src.get(at..)? {
-        [a, b, ..] => Some(usize::from(u16::from_le_bytes([*a, *b]))),
-        _ => None,
+    let last = src.len().checked_sub(2)?;
+    if at > last {
+        return None;
     }
+    Some(usize::from(u16::from_le_bytes([src[at], src[at + 1]])))
 }
 
 // The field of eight bytes, the least one first. (One function over the size is no plainer than `number` and this one: it

@@ -20,9 +20,9 @@ use supers::Root;
 use supers::rows::Row;
 
 // `is_head_normal`: whether the type t is a variable.
-fn is_head_normal(base: Base, work: &[u64], t: usize) -> bool
-    requires { 4 * t + 4 ≤ 4 * first_node + length (base.words.now ++ work.now) }
-    ensures { HeadNormal (base.entry.words.now ++ work.now) t result }
+fn is_head_normal(base: &Base, work: &[u64], t: usize) -> bool
+    requires { 4 * t + 4 ≤ 4 * first_node + length (base.now.words.now ++ work.now) }
+    ensures { HeadNormal (base.now.words.now ++ work.now) t result }
 {
     let s = ast::shape_at(base, work, t);
     match s {
@@ -34,7 +34,7 @@ fn is_head_normal(base: Base, work: &[u64], t: usize) -> bool
 
 // The dictionary of class c at t, which there must be.
 fn must_resolve(
-    base: Base,
+    base: &Base,
     work: &mut [u64],
     room: &mut Room,
     rules: Rules,
@@ -44,12 +44,12 @@ fn must_resolve(
     c: usize,
     t: usize,
 ) -> Result<Option<usize>, Refusal>
-    requires base_len_bound { length base.words.now ≤ 4 * room.old.top }
-    requires ready_resolve { ReadyResolve base.names.now (base.words.now ++ work.old) rules.insts.now room.old.top room.old.left sp root l t }
-    ensures gives { GivesOne (Declared base.entry.names.now rules.entry.classes.now (base.entry.words.now ++ work.old) room.old.top rules.entry.insts.now)
-        base.entry.names.now (base.entry.words.now ++ work.old) (base.entry.words.now ++ work.new) room.old.top room.old.left sp
-        (λ ce. must ce (givens_of base.entry.names.now (base.entry.words.now ++ work.old) root 0 l)
-        (pred (name_of base.entry.names.now c) (tree base.entry.names.now (base.entry.words.now ++ work.old) t)) room.old.left) (searched_of result room.new.top room.new.left) }
+    requires base_len_bound { length base.now.words.now ≤ 4 * room.old.top }
+    requires ready_resolve { ReadyResolve base.now.names.now (base.now.words.now ++ work.old) rules.insts.now room.old.top room.old.left sp root l t }
+    ensures gives { GivesOne (Declared base.now.names.now rules.entry.classes.now (base.now.words.now ++ work.old) room.old.top rules.entry.insts.now)
+        base.now.names.now (base.now.words.now ++ work.old) (base.now.words.now ++ work.new) room.old.top room.old.left sp
+        (λ ce. must ce (givens_of base.now.names.now (base.now.words.now ++ work.old) root 0 l)
+        (pred (name_of base.now.names.now c) (tree base.now.names.now (base.now.words.now ++ work.old) t)) room.old.left) (searched_of result room.new.top room.new.left) }
     ensures stays { result ≡ Ok None → room.new.top ≡ room.old.top }
 {
     let e = resolve::resolve(base, work, room, rules, DEPTH, sp, root, l, c, t)?;
@@ -58,7 +58,7 @@ fn must_resolve(
 
 // One predicate, of class c at t: where t is a variable it is looked for in the givens alone.
 fn reduce_one(
-    base: Base,
+    base: &Base,
     work: &mut [u64],
     room: &mut Room,
     rules: Rules,
@@ -68,12 +68,12 @@ fn reduce_one(
     c: usize,
     t: usize,
 ) -> Result<Option<usize>, Refusal>
-    requires base_len_bound { length base.words.now ≤ 4 * room.old.top }
-    requires ready_resolve { ReadyResolve base.names.now (base.words.now ++ work.old) rules.insts.now room.old.top room.old.left sp root l t }
-    ensures gives { GivesOne (Declared base.entry.names.now rules.entry.classes.now (base.entry.words.now ++ work.old) room.old.top rules.entry.insts.now)
-        base.entry.names.now (base.entry.words.now ++ work.old) (base.entry.words.now ++ work.new) room.old.top room.old.left sp
-        (λ ce. M.reduce_one ce (givens_of base.entry.names.now (base.entry.words.now ++ work.old) root 0 l)
-        (pred (name_of base.entry.names.now c) (tree base.entry.names.now (base.entry.words.now ++ work.old) t)) room.old.left) (searched_of result room.new.top room.new.left) }
+    requires base_len_bound { length base.now.words.now ≤ 4 * room.old.top }
+    requires ready_resolve { ReadyResolve base.now.names.now (base.now.words.now ++ work.old) rules.insts.now room.old.top room.old.left sp root l t }
+    ensures gives { GivesOne (Declared base.now.names.now rules.entry.classes.now (base.now.words.now ++ work.old) room.old.top rules.entry.insts.now)
+        base.now.names.now (base.now.words.now ++ work.old) (base.now.words.now ++ work.new) room.old.top room.old.left sp
+        (λ ce. M.reduce_one ce (givens_of base.now.names.now (base.now.words.now ++ work.old) root 0 l)
+        (pred (name_of base.now.names.now c) (tree base.now.names.now (base.now.words.now ++ work.old) t)) room.old.left) (searched_of result room.new.top room.new.left) }
     ensures stays { result ≡ Ok None → room.new.top ≡ room.old.top }
 {
     if is_head_normal(base, work, t) {
@@ -94,7 +94,7 @@ fn mark_row(binders: &mut [u64], j: usize, e: usize)
 
 // Row j: where it is pending and a dictionary is found, that replaces it.
 fn reduce_row(
-    base: Base,
+    base: &Base,
     work: &mut [u64],
     room: &mut Room,
     rules: Rules,
@@ -104,12 +104,12 @@ fn reduce_row(
     l: usize,
     j: usize,
 ) -> Result<(), Refusal>
-    requires base_len_bound { length base.words.now ≤ 4 * room.old.top }
-    requires ready_reduce { ReadyReduce base.names.now (base.words.now ++ work.old) rules.insts.now binders.old room.old.top room.old.left sp root l j (j + 1) }
-    ensures { GivesRow (Declared base.entry.names.now rules.entry.classes.now (base.entry.words.now ++ work.old) room.old.top rules.entry.insts.now)
-        base.entry.names.now (base.entry.words.now ++ work.old) (base.entry.words.now ++ work.new) binders.old binders.new room.old.top room.old.left sp j
-        (λ ce. row_out base.entry.names.now (base.entry.words.now ++ work.old) ce
-        (givens_of base.entry.names.now (base.entry.words.now ++ work.old) root 0 l) (row_at binders.old j) room.old.left) (reduced_of result room.new.top room.new.left) }
+    requires base_len_bound { length base.now.words.now ≤ 4 * room.old.top }
+    requires ready_reduce { ReadyReduce base.now.names.now (base.now.words.now ++ work.old) rules.insts.now binders.old room.old.top room.old.left sp root l j (j + 1) }
+    ensures { GivesRow (Declared base.now.names.now rules.entry.classes.now (base.now.words.now ++ work.old) room.old.top rules.entry.insts.now)
+        base.now.names.now (base.now.words.now ++ work.old) (base.now.words.now ++ work.new) binders.old binders.new room.old.top room.old.left sp j
+        (λ ce. row_out base.now.names.now (base.now.words.now ++ work.old) ce
+        (givens_of base.now.names.now (base.now.words.now ++ work.old) root 0 l) (row_at binders.old j) room.old.left) (reduced_of result room.new.top room.new.left) }
 {
     let q = supers::rows::row_at(binders, j);
     let Row::Pending(_, c, t) = q else {
@@ -124,7 +124,7 @@ fn reduce_row(
 
 // `reduce`: the first n rows one after the other. Those for which a dictionary is found are replaced, the others stay.
 pub fn reduce(
-    base: Base,
+    base: &Base,
     work: &mut [u64],
     room: &mut Room,
     rules: Rules,
@@ -134,12 +134,12 @@ pub fn reduce(
     l: usize,
     n: usize,
 ) -> Result<(), Refusal>
-    requires base_len_bound { length base.words.now ≤ 4 * room.old.top }
-    requires ready_reduce { ReadyReduce base.names.now (base.words.now ++ work.old) rules.insts.now binders.old room.old.top room.old.left sp root l 0 n }
-    ensures { GivesReduced (Declared base.entry.names.now rules.entry.classes.now (base.entry.words.now ++ work.old) room.old.top rules.entry.insts.now)
-        base.entry.names.now (base.entry.words.now ++ work.old) (base.entry.words.now ++ work.new) binders.old binders.new room.old.top room.old.left sp n
-        (λ ce. M.reduce ce (givens_of base.entry.names.now (base.entry.words.now ++ work.old) root 0 l)
-        (preds_in base.entry.names.now (base.entry.words.now ++ work.old) binders.old 0 n) room.old.left) (reduced_of result room.new.top room.new.left) }
+    requires base_len_bound { length base.now.words.now ≤ 4 * room.old.top }
+    requires ready_reduce { ReadyReduce base.now.names.now (base.now.words.now ++ work.old) rules.insts.now binders.old room.old.top room.old.left sp root l 0 n }
+    ensures { GivesReduced (Declared base.now.names.now rules.entry.classes.now (base.now.words.now ++ work.old) room.old.top rules.entry.insts.now)
+        base.now.names.now (base.now.words.now ++ work.old) (base.now.words.now ++ work.new) binders.old binders.new room.old.top room.old.left sp n
+        (λ ce. M.reduce ce (givens_of base.now.names.now (base.now.words.now ++ work.old) root 0 l)
+        (preds_in base.now.names.now (base.now.words.now ++ work.old) binders.old 0 n) room.old.left) (reduced_of result room.new.top room.new.left) }
 {
     for j in 0..n {
         reduce_row(base, work, room, rules, binders, sp, root, l, j)?;

@@ -27,7 +27,7 @@ fn letter_of(letters: &[u64], x: usize) -> usize
 
 // What the variable's word x becomes: the i-th of the list vs becomes to + i, the i-th of the words the i-th letter.
 pub fn renamed(
-    base: Base,
+    base: &Base,
     work: &[u64],
     letters: &[u64],
     top: usize,
@@ -35,8 +35,8 @@ pub fn renamed(
     to: usize,
     x: usize,
 ) -> usize
-    requires { Renaming (base.words.now ++ work.now) letters.now top vs to }
-    ensures { result ≡ renamed_word (base.entry.words.now ++ work.now) vs to letters.now x }
+    requires { Renaming (base.now.words.now ++ work.now) letters.now top vs to }
+    ensures { result ≡ renamed_word (base.now.words.now ++ work.now) vs to letters.now x }
 {
     let mut l = vs;
     let mut i: usize = 0;
@@ -54,7 +54,7 @@ pub fn renamed(
 // The type t with each variable's word renamed: `apply_type` of every substitution that does the same, with so much depth left.
 #[cycle(rename_rename_list)]
 pub fn rename(
-    base: Base,
+    base: &Base,
     work: &mut [u64],
     room: &mut Room,
     letters: &[u64],
@@ -63,9 +63,9 @@ pub fn rename(
     to: usize,
     t: usize,
 ) -> Result<usize, Refusal>
-    requires base_len_bound { length base.words.now ≤ 4 * room.old.top }
-    requires ready_rename { ReadyRename base.names.now (base.words.now ++ work.old) letters.now room.old.top room.old.left vs to t }
-    ensures { TypeRenamed base.entry.names.now (base.entry.words.now ++ work.old) (base.entry.words.now ++ work.new) letters.now room.old.top room.old.left depth vs to t (applied_of result room.new.top room.new.left) }
+    requires base_len_bound { length base.now.words.now ≤ 4 * room.old.top }
+    requires ready_rename { ReadyRename base.now.names.now (base.now.words.now ++ work.old) letters.now room.old.top room.old.left vs to t }
+    ensures { TypeRenamed base.now.names.now (base.now.words.now ++ work.old) (base.now.words.now ++ work.new) letters.now room.old.top room.old.left depth vs to t (applied_of result room.new.top room.new.left) }
 {
     if depth == 0 {
         return Err(Refusal::Depth);
@@ -96,7 +96,7 @@ pub fn rename(
 // Each type of the list n with its variables renamed, left to right.
 #[cycle(rename_rename_list)]
 pub fn rename_list(
-    base: Base,
+    base: &Base,
     work: &mut [u64],
     room: &mut Room,
     letters: &[u64],
@@ -105,9 +105,9 @@ pub fn rename_list(
     to: usize,
     n: usize,
 ) -> Result<usize, Refusal>
-    requires base_len_bound { length base.words.now ≤ 4 * room.old.top }
-    requires ready_rename { ReadyRename base.names.now (base.words.now ++ work.old) letters.now room.old.top room.old.left vs to n }
-    ensures { ListRenamed base.entry.names.now (base.entry.words.now ++ work.old) (base.entry.words.now ++ work.new) letters.now room.old.top room.old.left depth vs to n (applied_of result room.new.top room.new.left) }
+    requires base_len_bound { length base.now.words.now ≤ 4 * room.old.top }
+    requires ready_rename { ReadyRename base.now.names.now (base.now.words.now ++ work.old) letters.now room.old.top room.old.left vs to n }
+    ensures { ListRenamed base.now.names.now (base.now.words.now ++ work.old) (base.now.words.now ++ work.new) letters.now room.old.top room.old.left depth vs to n (applied_of result room.new.top room.new.left) }
 {
     let c = ast::cell_at(base, work, n);
     match c {

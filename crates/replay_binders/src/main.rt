@@ -14,14 +14,14 @@ use std::io::Write;
 // Simplifies two binders with so many steps, and writes what became of them.
 fn run<W: Write>(
     out: &mut W,
-    base: Base,
+    base: &Base,
     work: &mut [u64],
     classes: &[u64],
     binders: &mut [u64],
     left: usize,
 ) -> io::Result<()>
-    requires base_len { length base.words.now ≡ 0 }
-    requires names { Names base.names.now }
+    requires base_len { length base.now.words.now ≡ 0 }
+    requires names { Names base.now.names.now }
     requires typed_rows { TypedRows 0 binders.old 2 }
     requires in_bounds { 6 ≤ length binders.old }
     requires left_in_bounds { 8 * left ≤ length work.old }
@@ -41,13 +41,13 @@ fn run<W: Write>(
 // The case with so many steps, if it is one.
 fn tested<W: Write>(
     out: &mut W,
-    base: Base,
+    base: &Base,
     work: &mut [u64],
     classes: &[u64],
     binders: &mut [u64],
     left: usize,
 ) -> io::Result<()>
-    requires base_len { length base.words.now ≡ 0 }
+    requires base_len { length base.now.words.now ≡ 0 }
     requires in_bounds { 6 ≤ length binders.old }
     requires left_in_bounds { 8 * left ≤ length work.old }
 {
@@ -84,7 +84,7 @@ fn case<W: Write>(out: &mut W, left: usize) -> io::Result<()>
         words: &[],
         names: &names,
     };
-    tested(out, base, &mut work, &classes, &mut binders, left)
+    tested(out, &base, &mut work, &classes, &mut binders, left)
 }
 
 fn main(rt: HostRuntime) -> io::Result<()> {

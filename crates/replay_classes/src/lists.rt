@@ -13,7 +13,7 @@ fn push(work: &mut [u64], room: &mut Room, class: usize, t: usize, next: usize) 
         words: &[],
         names: &[],
     };
-    subst::add_pred(none, work, room, class, t, next)
+    subst::add_pred(&none, work, room, class, t, next)
 }
 
 // Reads a list of predicates: how many, and each one's class and type.

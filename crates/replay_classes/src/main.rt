@@ -71,16 +71,16 @@ struct Question {
 // plainer, since the functions that are called ask it of `base` itself.
 fn run<W: Write>(
     out: &mut W,
-    base: Base,
+    base: &Base,
     work: &mut [u64],
     room: &mut Room,
     rules: Rules,
     task: Task,
     q: Question,
 ) -> io::Result<()>
-    requires base_len { length base.words.now ≡ 0 }
-    requires names { Names base.names.now }
-    requires posed { Posed (base.words.now ++ work.old) (length work.old) rules.insts.now room.old.top room.old.left q.head q.context q.ty }
+    requires base_len { length base.now.words.now ≡ 0 }
+    requires names { Names base.now.names.now }
+    requires posed { Posed (base.now.words.now ++ work.old) (length work.old) rules.insts.now room.old.top room.old.left q.head q.context q.ty }
 {
     let sp = work.len();
     match task {
@@ -110,15 +110,15 @@ fn run<W: Write>(
 // Answers a case, if it is one.
 fn answer<W: Write>(
     out: &mut W,
-    base: Base,
+    base: &Base,
     work: &mut [u64],
     room: &mut Room,
     rules: Rules,
     task: Task,
     q: Question,
 ) -> io::Result<()>
-    requires base_len { length base.words.now ≡ 0 }
-    requires names { Names base.names.now }
+    requires base_len { length base.now.words.now ≡ 0 }
+    requires names { Names base.now.names.now }
 {
     if !goals::is_posed(base, work, rules.insts, *room, q.head, q.context, q.ty) {
         return writeln!(out, "no case");
@@ -131,14 +131,14 @@ fn answer<W: Write>(
 fn one<W: Write>(
     out: &mut W,
     reader: &mut Reader,
-    base: Base,
+    base: &Base,
     work: &mut [u64],
     ids: &mut [u64],
     classes: &mut [u64],
     insts: &mut [u64],
 ) -> io::Result<()>
-    requires base_len { length base.words.now ≡ 0 }
-    requires names { Names base.names.now }
+    requires base_len { length base.now.words.now ≡ 0 }
+    requires names { Names base.now.names.now }
 {
     let task = Task::from(reader.byte());
     let mut room = Room {
@@ -185,7 +185,7 @@ fn main(rt: HostRuntime) -> io::Result<()> {
             one(
                 &mut out,
                 reader,
-                base,
+                &base,
                 &mut work,
                 &mut ids,
                 &mut classes,

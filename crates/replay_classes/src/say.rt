@@ -8,7 +8,7 @@ use std::io::Write;
 // Writes the answer of resolution: the steps left and a dictionary, or a refusal.
 pub fn resolved<W: Write>(
     out: &mut W,
-    base: Base,
+    base: &Base,
     work: &[u64],
     r: Result<usize, Refusal>,
     left: usize,
@@ -25,7 +25,7 @@ pub fn resolved<W: Write>(
 // Writes the answer of the test of overlap: the steps left, or a refusal.
 pub fn apart<W: Write>(
     out: &mut W,
-    base: Base,
+    base: &Base,
     work: &[u64],
     r: Result<(), Refusal>,
     left: usize,

@@ -64,16 +64,16 @@ impl From<u8> for Task {
 // That no type lies in a closed table and no two names are equal stands in each contract: a type that says so would be no
 // plainer, since the functions that are called ask it of `base` itself.
 fn run(
-    base: Base,
+    base: &Base,
     work: &mut [u64],
     room: &mut Room,
     task: Task,
     s: usize,
     t: usize,
 ) -> Result<usize, Refusal>
-    requires base_len { length base.words.now ≡ 0 }
-    requires names { Names base.names.now }
-    requires fits { Fits (base.words.now ++ work.old) (length work.old) room.old.top room.old.left s t }
+    requires base_len { length base.now.words.now ≡ 0 }
+    requires names { Names base.now.names.now }
+    requires fits { Fits (base.now.words.now ++ work.old) (length work.old) room.old.top room.old.left s t }
 {
     let sp = work.len();
     match task {
@@ -85,15 +85,15 @@ fn run(
 // Answers a case, if it is one.
 fn answer<W: Write>(
     out: &mut W,
-    base: Base,
+    base: &Base,
     work: &mut [u64],
     room: &mut Room,
     task: Task,
     s: usize,
     t: usize,
 ) -> io::Result<()>
-    requires base_len { length base.words.now ≡ 0 }
-    requires names { Names base.names.now }
+    requires base_len { length base.now.words.now ≡ 0 }
+    requires names { Names base.now.names.now }
 {
     if !ready::is_ready(base, work, *room, s, t) {
         return writeln!(out, "no case");
@@ -107,12 +107,12 @@ fn answer<W: Write>(
 fn one<W: Write>(
     out: &mut W,
     reader: &mut Reader,
-    base: Base,
+    base: &Base,
     work: &mut [u64],
     ids: &mut [u64],
 ) -> io::Result<()>
-    requires base_len { length base.words.now ≡ 0 }
-    requires names { Names base.names.now }
+    requires base_len { length base.now.words.now ≡ 0 }
+    requires names { Names base.now.names.now }
 {
     let task = Task::from(reader.byte());
     let mut room = Room {
@@ -139,6 +139,6 @@ fn main(rt: HostRuntime) -> io::Result<()> {
         |reader, base|
             requires base_len { length base.words.now ≡ 0 }
             requires names { Names base.names.now }
-        { one(&mut out, reader, base, &mut work, &mut ids) },
+        { one(&mut out, reader, &base, &mut work, &mut ids) },
     )
 }

@@ -6,7 +6,7 @@ use std::io;
 use std::io::Write;
 
 // Writes the variable and the type of each of the last k pairs of the words.
-fn pairs<W: Write>(out: &mut W, base: Base, work: &[u64], k: usize) -> io::Result<()> {
+fn pairs<W: Write>(out: &mut W, base: &Base, work: &[u64], k: usize) -> io::Result<()> {
     let n = work.len();
     let from = n - 2 * k.min(n / 2);
     let (pairs, _) = work[from..].as_chunks::<2>();
@@ -22,7 +22,7 @@ fn pairs<W: Write>(out: &mut W, base: Base, work: &[u64], k: usize) -> io::Resul
 // Writes an answer: a substitution of so many pairs after the steps left, or a refusal.
 pub fn answer<W: Write>(
     out: &mut W,
-    base: Base,
+    base: &Base,
     work: &[u64],
     r: Result<usize, Refusal>,
     left: usize,

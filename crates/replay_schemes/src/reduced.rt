@@ -32,8 +32,8 @@ const HEAD: usize = 9223372036854775810;
 const GIVEN: usize = 9223372036854775813;
 
 // Writes the nodes.
-fn build(base: Base, work: &mut [u64])
-    requires base_len { length base.words.now ≡ 0 }
+fn build(base: &Base, work: &mut [u64])
+    requires base_len { length base.now.words.now ≡ 0 }
     requires in_bounds { 24 ≤ length work.old }
 {
     subst::push_pred(base, work, 0, EQ, names::NULLARY + INT, ast::NIL);
@@ -47,7 +47,7 @@ fn build(base: Base, work: &mut [u64])
 // Reduces three rows under the context l of a head of class h, and writes what became of them.
 fn run<W: Write>(
     out: &mut W,
-    base: Base,
+    base: &Base,
     work: &mut [u64],
     mut room: Room,
     rules: Rules,
@@ -55,9 +55,9 @@ fn run<W: Write>(
     h: usize,
     l: usize,
 ) -> io::Result<()>
-    requires base_len { length base.words.now ≡ 0 }
-    requires names { Names base.names.now }
-    requires posed { Posed (base.words.now ++ work.old) (length work.old) rules.insts.now room.top room.left h l l }
+    requires base_len { length base.now.words.now ≡ 0 }
+    requires names { Names base.now.names.now }
+    requires posed { Posed (base.now.words.now ++ work.old) (length work.old) rules.insts.now room.top room.left h l l }
     requires typed_rows { TypedRows room.top binders.old 3 }
     requires in_bounds { 9 ≤ length binders.old }
 {
@@ -76,14 +76,14 @@ fn run<W: Write>(
 // The same, if the words are what it asks.
 fn tested<W: Write>(
     out: &mut W,
-    base: Base,
+    base: &Base,
     work: &mut [u64],
     rules: Rules,
     binders: &mut [u64],
     left: usize,
     l: usize,
 ) -> io::Result<()>
-    requires base_len { length base.words.now ≡ 0 }
+    requires base_len { length base.now.words.now ≡ 0 }
     requires in_bounds { 9 ≤ length binders.old }
 {
     let room = Room { top: TOP, left };
@@ -133,8 +133,8 @@ fn case<W: Write>(out: &mut W, left: usize, l: usize) -> io::Result<()> {
         classes: &classes,
         insts: &insts,
     };
-    build(base, &mut work);
-    tested(out, base, &mut work, rules, &mut binders, left, l)
+    build(&base, &mut work);
+    tested(out, &base, &mut work, rules, &mut binders, left, l)
 }
 
 // With the given, with one step too few, and without the given.

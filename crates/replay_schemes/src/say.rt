@@ -9,7 +9,7 @@ use subst::{Qual, Scheme};
 // Writes a predicate.
 fn predicate<W: Write>(
     out: &mut W,
-    base: Base,
+    base: &Base,
     work: &[u64],
     c: usize,
     t: usize,
@@ -22,7 +22,7 @@ fn predicate<W: Write>(
 }
 
 // Writes the first predicate of a list; the rest of it.
-fn first<W: Write>(out: &mut W, base: Base, work: &[u64], l: usize) -> io::Result<usize> {
+fn first<W: Write>(out: &mut W, base: &Base, work: &[u64], l: usize) -> io::Result<usize> {
     if l < names::NODE {
         return Ok(ast::NIL);
     }
@@ -39,7 +39,7 @@ fn first<W: Write>(out: &mut W, base: Base, work: &[u64], l: usize) -> io::Resul
 }
 
 // Writes a scheme: its variables, its two predicates and its type.
-fn scheme<W: Write>(out: &mut W, base: Base, work: &[u64], scheme: Scheme) -> io::Result<()> {
+fn scheme<W: Write>(out: &mut W, base: &Base, work: &[u64], scheme: Scheme) -> io::Result<()> {
     write!(out, " forall")?;
     say::all(out, base, work, scheme.vars)?;
     write!(out, ".")?;
@@ -52,7 +52,7 @@ fn scheme<W: Write>(out: &mut W, base: Base, work: &[u64], scheme: Scheme) -> io
 // Writes what came of a scheme with these variables: the steps left and the scheme, or a refusal.
 pub fn answer<W: Write>(
     out: &mut W,
-    base: Base,
+    base: &Base,
     work: &[u64],
     vars: usize,
     r: Result<Qual, Refusal>,

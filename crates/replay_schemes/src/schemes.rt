@@ -58,8 +58,8 @@ const SOME: usize = 9223372036854775812;
 const ALL: usize = 9223372036854775813;
 
 // Writes the nodes.
-fn build(base: Base, work: &mut [u64])
-    requires base_len { length base.words.now ≡ 0 }
+fn build(base: &Base, work: &mut [u64])
+    requires base_len { length base.now.words.now ≡ 0 }
     requires in_bounds { 24 ≤ length work.old }
 {
     subst::push_pred(base, work, 0, EQ, B, ast::NIL);
@@ -71,9 +71,9 @@ fn build(base: Base, work: &mut [u64])
 }
 
 // Whether a list has at most so many types, all of them variables.
-fn is_few(base: Base, work: &[u64], top: usize, l: usize, most: usize) -> bool
-    requires { Node (base.words.now ++ work.now) top l }
-    ensures { result ≡ true → FewIn (base.entry.words.now ++ work.now) l most }
+fn is_few(base: &Base, work: &[u64], top: usize, l: usize, most: usize) -> bool
+    requires { Node (base.now.words.now ++ work.now) top l }
+    ensures { result ≡ true → FewIn (base.now.words.now ++ work.now) l most }
 {
     let c = ast::cell_at(base, work, l);
     match c {
@@ -91,9 +91,9 @@ fn is_few(base: Base, work: &[u64], top: usize, l: usize, most: usize) -> bool
 }
 
 // Whether a type is a constructor with at most so many variables.
-fn has_few(base: Base, work: &[u64], top: usize, t: usize, most: usize) -> bool
-    requires { Node (base.words.now ++ work.now) top t }
-    ensures { result ≡ true → FewOf (base.entry.words.now ++ work.now) t most }
+fn has_few(base: &Base, work: &[u64], top: usize, t: usize, most: usize) -> bool
+    requires { Node (base.now.words.now ++ work.now) top t }
+    ensures { result ≡ true → FewOf (base.now.words.now ++ work.now) t most }
 {
     let s = ast::shape_at(base, work, t);
     let Shape::Con(_, l) = s else {
@@ -103,9 +103,9 @@ fn has_few(base: Base, work: &[u64], top: usize, t: usize, most: usize) -> bool
 }
 
 // Whether the words are a scheme, with room for the steps and 16 words more.
-fn is_scheme(base: Base, work: &[u64], room: Room, scheme: Scheme) -> bool
+fn is_scheme(base: &Base, work: &[u64], room: Room, scheme: Scheme) -> bool
     requires { room.left ≤ 1000 }
-    ensures { result ≡ true → Schemed (base.entry.words.now ++ work.now) (length work.now) room.top room.left scheme.vars scheme.preds scheme.ty }
+    ensures { result ≡ true → Schemed (base.now.words.now ++ work.now) (length work.now) room.top room.left scheme.vars scheme.preds scheme.ty }
 {
     let more = Room {
         top: room.top,
@@ -125,10 +125,10 @@ fn is_scheme(base: Base, work: &[u64], room: Room, scheme: Scheme) -> bool
 // The free variables of a part of a scheme.
 // That no type lies in a closed table and no two names are equal stands in each contract: a type that says so would be no
 // plainer, since the functions that are called ask it of `base` itself.
-fn collected(base: Base, work: &mut [u64], room: &mut Room, part: Part, scheme: Scheme) -> usize
-    requires base_len { length base.words.now ≡ 0 }
-    requires names { Names base.names.now }
-    requires schemed { Schemed (base.words.now ++ work.old) (length work.old) room.old.top room.old.left scheme.vars scheme.preds scheme.ty }
+fn collected(base: &Base, work: &mut [u64], room: &mut Room, part: Part, scheme: Scheme) -> usize
+    requires base_len { length base.now.words.now ≡ 0 }
+    requires names { Names base.now.names.now }
+    requires schemed { Schemed (base.now.words.now ++ work.old) (length work.old) room.old.top room.old.left scheme.vars scheme.preds scheme.ty }
 {
     match part {
         Part::Type => free::ftv_type(base, work, room, ast::NIL, scheme.ty),
@@ -140,15 +140,15 @@ fn collected(base: Base, work: &mut [u64], room: &mut Room, part: Part, scheme: 
 
 // The scheme after the variable v has become Int.
 fn filled(
-    base: Base,
+    base: &Base,
     work: &mut [u64],
     room: &mut Room,
     v: usize,
     scheme: Scheme,
 ) -> Result<Qual, Refusal>
-    requires base_len { length base.words.now ≡ 0 }
-    requires names { Names base.names.now }
-    requires schemed { Schemed (base.words.now ++ work.old) (length work.old) room.old.top room.old.left scheme.vars scheme.preds scheme.ty }
+    requires base_len { length base.now.words.now ≡ 0 }
+    requires names { Names base.now.names.now }
+    requires schemed { Schemed (base.now.words.now ++ work.old) (length work.old) room.old.top room.old.left scheme.vars scheme.preds scheme.ty }
 {
     let sp = work.len();
     let s = Subst::singleton(base, work, sp, v, names::NULLARY + INT);
@@ -158,15 +158,15 @@ fn filled(
 // Does a task with a scheme, and writes what came of it.
 fn run<W: Write>(
     out: &mut W,
-    base: Base,
+    base: &Base,
     work: &mut [u64],
     mut room: Room,
     task: Task,
     scheme: Scheme,
 ) -> io::Result<()>
-    requires base_len { length base.words.now ≡ 0 }
-    requires names { Names base.names.now }
-    requires schemed { Schemed (base.words.now ++ work.old) (length work.old) room.top room.left scheme.vars scheme.preds scheme.ty }
+    requires base_len { length base.now.words.now ≡ 0 }
+    requires names { Names base.now.names.now }
+    requires schemed { Schemed (base.now.words.now ++ work.old) (length work.old) room.top room.left scheme.vars scheme.preds scheme.ty }
 {
     match task {
         Task::Free(part) => {
@@ -190,13 +190,13 @@ fn run<W: Write>(
 // The same, if the words are what it asks.
 fn tested<W: Write>(
     out: &mut W,
-    base: Base,
+    base: &Base,
     work: &mut [u64],
     left: usize,
     task: Task,
     vars: usize,
 ) -> io::Result<()>
-    requires base_len { length base.words.now ≡ 0 }
+    requires base_len { length base.now.words.now ≡ 0 }
     requires left_bound { left ≤ 1000 }
 {
     let room = Room { top: TOP, left };
@@ -249,8 +249,8 @@ fn case<W: Write>(out: &mut W, task: Task, left: usize, vars: usize) -> io::Resu
         words: &[],
         names: &names,
     };
-    build(base, &mut work);
-    tested(out, base, &mut work, left, task, vars)
+    build(&base, &mut work);
+    tested(out, &base, &mut work, left, task, vars)
 }
 
 // The free variables of type, predicates, both, the scheme, and the scheme that binds all; whether the two schemes are closed;

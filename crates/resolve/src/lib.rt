@@ -41,7 +41,7 @@ enum Way {
 // The way by the first instance whose head matches a goal of class c at t, its contexts filled. Its match is left as pairs
 // that end at sp.
 fn choose(
-    base: Base,
+    base: &Base,
     work: &mut [u64],
     room: &mut Room,
     insts: &[u64],
@@ -49,11 +49,11 @@ fn choose(
     c: usize,
     t: usize,
 ) -> Result<Way, Refusal>
-    requires base_len_bound { length base.words.now ≤ 4 * room.old.top }
-    requires ready_pick { ReadyPick base.names.now (base.words.now ++ work.old) insts.now room.old.top room.old.left sp t }
-    ensures { GivesWay (λ ce. Instances base.entry.names.now (base.entry.words.now ++ work.old) room.old.top insts.now ce.instances)
-        base.entry.names.now (base.entry.words.now ++ work.old) (base.entry.words.now ++ work.new) insts.now room.old.top room.old.left sp
-        (λ ce. or_way ce (pred (name_of base.entry.names.now c) (tree base.entry.names.now (base.entry.words.now ++ work.old) t)) none room.old.left) (choice_of result room.new.top room.new.left) }
+    requires base_len_bound { length base.now.words.now ≤ 4 * room.old.top }
+    requires ready_pick { ReadyPick base.now.names.now (base.now.words.now ++ work.old) insts.now room.old.top room.old.left sp t }
+    ensures { GivesWay (λ ce. Instances base.now.names.now (base.now.words.now ++ work.old) room.old.top insts.now ce.instances)
+        base.now.names.now (base.now.words.now ++ work.old) (base.now.words.now ++ work.new) insts.now room.old.top room.old.left sp
+        (λ ce. or_way ce (pred (name_of base.now.names.now c) (tree base.now.names.now (base.now.words.now ++ work.old) t)) none room.old.left) (choice_of result room.new.top room.new.left) }
 {
     let p = instances::by_inst(base, work, room, insts, sp, c, t)?;
     let Some(m) = p else {
@@ -70,7 +70,7 @@ fn choose(
 
 // The way to the dictionary of a goal of class c at t: the givens of the list l first, then the instances.
 fn find_way(
-    base: Base,
+    base: &Base,
     work: &mut [u64],
     room: &mut Room,
     rules: Rules,
@@ -80,12 +80,12 @@ fn find_way(
     c: usize,
     t: usize,
 ) -> Result<Way, Refusal>
-    requires base_len_bound { length base.words.now ≤ 4 * room.old.top }
-    requires ready_resolve { ReadyResolve base.names.now (base.words.now ++ work.old) rules.insts.now room.old.top room.old.left sp root l t }
-    ensures { GivesWay (Declared base.entry.names.now rules.entry.classes.now (base.entry.words.now ++ work.old) room.old.top rules.entry.insts.now)
-        base.entry.names.now (base.entry.words.now ++ work.old) (base.entry.words.now ++ work.new) rules.entry.insts.now room.old.top room.old.left sp
-        (λ ce. way_to ce (givens_of base.entry.names.now (base.entry.words.now ++ work.old) root 0 l)
-        (pred (name_of base.entry.names.now c) (tree base.entry.names.now (base.entry.words.now ++ work.old) t)) room.old.left) (choice_of result room.new.top room.new.left) }
+    requires base_len_bound { length base.now.words.now ≤ 4 * room.old.top }
+    requires ready_resolve { ReadyResolve base.now.names.now (base.now.words.now ++ work.old) rules.insts.now room.old.top room.old.left sp root l t }
+    ensures { GivesWay (Declared base.now.names.now rules.entry.classes.now (base.now.words.now ++ work.old) room.old.top rules.entry.insts.now)
+        base.now.names.now (base.now.words.now ++ work.old) (base.now.words.now ++ work.new) rules.entry.insts.now room.old.top room.old.left sp
+        (λ ce. way_to ce (givens_of base.now.names.now (base.now.words.now ++ work.old) root 0 l)
+        (pred (name_of base.now.names.now c) (tree base.now.names.now (base.now.words.now ++ work.old) t)) room.old.left) (choice_of result room.new.top room.new.left) }
 {
     let f = supers::resolve_from_givens(base, work, room, rules.classes, sp, root, l, c, t)?;
     match f {
@@ -95,12 +95,12 @@ fn find_way(
 }
 
 // A term alone, or applied to the terms of a list that is not empty.
-fn with_args(base: Base, work: &mut [u64], room: &mut Room, f: usize, es: usize) -> usize
-    requires base_len_bound { length base.words.now ≤ 4 * room.old.top }
-    requires top_in_bounds { 4 * room.old.top + 4 ≤ length (base.words.now ++ work.old) }
-    requires node { Node (base.words.now ++ work.old) room.old.top f }
-    requires node_2 { Node (base.words.now ++ work.old) room.old.top es }
-    ensures wraps { Wraps (base.entry.words.now ++ work.old) (base.entry.words.now ++ work.new) room.old.top f es result room.new.top }
+fn with_args(base: &Base, work: &mut [u64], room: &mut Room, f: usize, es: usize) -> usize
+    requires base_len_bound { length base.now.words.now ≤ 4 * room.old.top }
+    requires top_in_bounds { 4 * room.old.top + 4 ≤ length (base.now.words.now ++ work.old) }
+    requires node { Node (base.now.words.now ++ work.old) room.old.top f }
+    requires node_2 { Node (base.now.words.now ++ work.old) room.old.top es }
+    ensures wraps { Wraps (base.now.words.now ++ work.old) (base.now.words.now ++ work.new) room.old.top f es result room.new.top }
     ensures left { room.new.left ≡ room.old.left }
 {
     let c = ast::cell_at(base, work, es);
@@ -112,7 +112,7 @@ fn with_args(base: Base, work: &mut [u64], room: &mut Room, f: usize, es: usize)
 
 // The dictionary of instance i from the list of its subgoals' dictionaries: the pairs fill its head.
 fn build(
-    base: Base,
+    base: &Base,
     work: &mut [u64],
     room: &mut Room,
     insts: &[u64],
@@ -120,13 +120,13 @@ fn build(
     i: usize,
     es: usize,
 ) -> Result<usize, Refusal>
-    requires base_len_bound { length base.words.now ≤ 4 * room.old.top }
-    requires ready_build { ReadyBuild base.names.now (base.words.now ++ work.old) insts.now room.old.top room.old.left sub.at sub.k i es }
-    ensures { GivesCore (Stored base.entry.names.now (base.entry.words.now ++ work.old) room.old.top (get_or insts.now i 0))
-        (core base.entry.names.now (base.entry.words.now ++ work.new)) (4 * room.old.top + 8 * room.old.left + 4) 0
-        base.entry.names.now (base.entry.words.now ++ work.old) (base.entry.words.now ++ work.new) room.old.top room.old.left sub.at
-        (λ inst. dictionary (record { index = i; inst = inst; fills = sub_at base.entry.names.now (base.entry.words.now ++ work.old) sub.at sub.k })
-        (cores base.entry.names.now (base.entry.words.now ++ work.old) es) room.old.left) (resolved_of result room.new.top room.new.left) }
+    requires base_len_bound { length base.now.words.now ≤ 4 * room.old.top }
+    requires ready_build { ReadyBuild base.now.names.now (base.now.words.now ++ work.old) insts.now room.old.top room.old.left sub.at sub.k i es }
+    ensures { GivesCore (Stored base.now.names.now (base.now.words.now ++ work.old) room.old.top (get_or insts.now i 0))
+        (core base.now.names.now (base.now.words.now ++ work.new)) (4 * room.old.top + 8 * room.old.left + 4) 0
+        base.now.names.now (base.now.words.now ++ work.old) (base.now.words.now ++ work.new) room.old.top room.old.left sub.at
+        (λ inst. dictionary (record { index = i; inst = inst; fills = sub_at base.now.names.now (base.now.words.now ++ work.old) sub.at sub.k })
+        (cores base.now.names.now (base.now.words.now ++ work.old) es) room.old.left) (resolved_of result room.new.top room.new.left) }
 {
     let x = instances::instance_at(base, work, insts, i);
     let u = apply::apply(base, work, room, DEPTH, sub, x.head)?;
@@ -137,7 +137,7 @@ fn build(
 // The dictionaries of a list of goals, one after the other, each with so much depth left.
 #[cycle(all_resolved_resolve)]
 fn all_resolved(
-    base: Base,
+    base: &Base,
     work: &mut [u64],
     room: &mut Room,
     rules: Rules,
@@ -147,13 +147,13 @@ fn all_resolved(
     l: usize,
     goals: usize,
 ) -> Result<usize, Refusal>
-    requires base_len_bound { length base.words.now ≤ 4 * room.old.top }
-    requires ready_resolve { ReadyResolve base.names.now (base.words.now ++ work.old) rules.insts.now room.old.top room.old.left sp root l goals }
-    ensures { GivesCore (Declared base.entry.names.now rules.entry.classes.now (base.entry.words.now ++ work.old) room.old.top rules.entry.insts.now)
-        (cores base.entry.names.now (base.entry.words.now ++ work.new)) (4 * room.old.top + 8 * room.old.left) 0
-        base.entry.names.now (base.entry.words.now ++ work.old) (base.entry.words.now ++ work.new) room.old.top room.old.left sp
-        (λ ce. M.all_resolved (λ q. M.resolve_in depth ce (givens_of base.entry.names.now (base.entry.words.now ++ work.old) root 0 l) q)
-        (preds_of_word base.entry.names.now (base.entry.words.now ++ work.old) goals) room.old.left) (resolved_of result room.new.top room.new.left) }
+    requires base_len_bound { length base.now.words.now ≤ 4 * room.old.top }
+    requires ready_resolve { ReadyResolve base.now.names.now (base.now.words.now ++ work.old) rules.insts.now room.old.top room.old.left sp root l goals }
+    ensures { GivesCore (Declared base.now.names.now rules.entry.classes.now (base.now.words.now ++ work.old) room.old.top rules.entry.insts.now)
+        (cores base.now.names.now (base.now.words.now ++ work.new)) (4 * room.old.top + 8 * room.old.left) 0
+        base.now.names.now (base.now.words.now ++ work.old) (base.now.words.now ++ work.new) room.old.top room.old.left sp
+        (λ ce. M.all_resolved (λ q. M.resolve_in depth ce (givens_of base.now.names.now (base.now.words.now ++ work.old) root 0 l) q)
+        (preds_of_word base.now.names.now (base.now.words.now ++ work.old) goals) room.old.left) (resolved_of result room.new.top room.new.left) }
 {
     let c = ast::cell_at(base, work, goals);
     match c {
@@ -170,7 +170,7 @@ fn all_resolved(
 // `resolve`: the dictionary of a goal of class c at t, with so much depth left.
 #[cycle(all_resolved_resolve)]
 pub fn resolve(
-    base: Base,
+    base: &Base,
     work: &mut [u64],
     room: &mut Room,
     rules: Rules,
@@ -181,13 +181,13 @@ pub fn resolve(
     c: usize,
     t: usize,
 ) -> Result<usize, Refusal>
-    requires base_len_bound { length base.words.now ≤ 4 * room.old.top }
-    requires ready_resolve { ReadyResolve base.names.now (base.words.now ++ work.old) rules.insts.now room.old.top room.old.left sp root l t }
-    ensures { GivesCore (Declared base.entry.names.now rules.entry.classes.now (base.entry.words.now ++ work.old) room.old.top rules.entry.insts.now)
-        (core base.entry.names.now (base.entry.words.now ++ work.new)) (4 * room.old.top + 8 * room.old.left - 4) 1
-        base.entry.names.now (base.entry.words.now ++ work.old) (base.entry.words.now ++ work.new) room.old.top room.old.left sp
-        (λ ce. M.resolve_in depth ce (givens_of base.entry.names.now (base.entry.words.now ++ work.old) root 0 l)
-        (pred (name_of base.entry.names.now c) (tree base.entry.names.now (base.entry.words.now ++ work.old) t)) room.old.left) (resolved_of result room.new.top room.new.left) }
+    requires base_len_bound { length base.now.words.now ≤ 4 * room.old.top }
+    requires ready_resolve { ReadyResolve base.now.names.now (base.now.words.now ++ work.old) rules.insts.now room.old.top room.old.left sp root l t }
+    ensures { GivesCore (Declared base.now.names.now rules.entry.classes.now (base.now.words.now ++ work.old) room.old.top rules.entry.insts.now)
+        (core base.now.names.now (base.now.words.now ++ work.new)) (4 * room.old.top + 8 * room.old.left - 4) 1
+        base.now.names.now (base.now.words.now ++ work.old) (base.now.words.now ++ work.new) room.old.top room.old.left sp
+        (λ ce. M.resolve_in depth ce (givens_of base.now.names.now (base.now.words.now ++ work.old) root 0 l)
+        (pred (name_of base.now.names.now c) (tree base.now.names.now (base.now.words.now ++ work.old) t)) room.old.left) (resolved_of result room.new.top room.new.left) }
 {
     if depth == 0 {
         return Err(Refusal::Depth);

@@ -150,16 +150,15 @@ pub fn built_in(names: &[u64], k: Key) -> Option<usize>
     None
 }
 
-// The bytes of a built-in name.
+// The bytes of a built-in name. (Word by word: a pattern over the row makes the whole table anew at each call.)
 fn built_in_key(r: usize) -> Key
     requires { r < 35 }
     ensures { nth built_ins r ≡ some (name (bytes_of result)) }
 {
-    let [a, b] = BUILT_INS[r];
     Key {
         over: 0,
-        a,
-        b,
+        a: BUILT_INS[r][0],
+        b: BUILT_INS[r][1],
         c: 0,
         d: 0,
     }

@@ -99,17 +99,17 @@ pub fn put(env: &mut [u64], r: usize, e: Entry)
 
 // The pairs applied to the scheme of row r; one that is known to be closed stays, for no step.
 fn apply_row(
-    base: Base,
+    base: &Base,
     work: &mut [u64],
     room: &mut Room,
     env: &mut [u64],
     sub: Subst,
     r: usize,
 ) -> Result<(), Refusal>
-    requires base_len_bound { length base.words.now ≤ 4 * room.old.top }
-    requires ready_row { ReadyRow base.names.now (base.words.now ++ work.old) env.old room.old.top room.old.left sub.at sub.k r }
-    ensures { GivesRow base.entry.names.now (base.entry.words.now ++ work.old) (base.entry.words.now ++ work.new) env.old env.new room.old.top room.old.left r
-        (applied (sub_at base.entry.names.now (base.entry.words.now ++ work.old) sub.at sub.k) (scheme_in base.entry.names.now (base.entry.words.now ++ work.old) (entry_of env.old r)) room.old.left) (swept_of result room.new.top room.new.left) }
+    requires base_len_bound { length base.now.words.now ≤ 4 * room.old.top }
+    requires ready_row { ReadyRow base.now.names.now (base.now.words.now ++ work.old) env.old room.old.top room.old.left sub.at sub.k r }
+    ensures { GivesRow base.now.names.now (base.now.words.now ++ work.old) (base.now.words.now ++ work.new) env.old env.new room.old.top room.old.left r
+        (applied (sub_at base.now.names.now (base.now.words.now ++ work.old) sub.at sub.k) (scheme_in base.now.names.now (base.now.words.now ++ work.old) (entry_of env.old r)) room.old.left) (swept_of result room.new.top room.new.left) }
 {
     let e = row_at(env, r);
     match e {
@@ -133,17 +133,17 @@ fn apply_row(
 
 // `apply_env`: the pairs applied to each scheme, in byte order of the names.
 pub fn apply_env(
-    base: Base,
+    base: &Base,
     work: &mut [u64],
     room: &mut Room,
     env: &mut [u64],
     order: &[u64],
     sub: Subst,
 ) -> Result<(), Refusal>
-    requires base_len_bound { length base.words.now ≤ 4 * room.old.top }
-    requires ready_env { ReadyEnv base.names.now (base.words.now ++ work.old) env.old order.now room.old.top room.old.left sub.at sub.k }
-    ensures { GivesEnv base.entry.names.now (base.entry.words.now ++ work.old) (base.entry.words.now ++ work.new) env.old env.new order.now room.old.top room.old.left
-        (apply_schemes (sub_at base.entry.names.now (base.entry.words.now ++ work.old) sub.at sub.k) (env_of base.entry.names.now (base.entry.words.now ++ work.old) env.old order.now) room.old.left) (swept_of result room.new.top room.new.left) }
+    requires base_len_bound { length base.now.words.now ≤ 4 * room.old.top }
+    requires ready_env { ReadyEnv base.now.names.now (base.now.words.now ++ work.old) env.old order.now room.old.top room.old.left sub.at sub.k }
+    ensures { GivesEnv base.now.names.now (base.now.words.now ++ work.old) (base.now.words.now ++ work.new) env.old env.new order.now room.old.top room.old.left
+        (apply_schemes (sub_at base.now.names.now (base.now.words.now ++ work.old) sub.at sub.k) (env_of base.now.names.now (base.now.words.now ++ work.old) env.old order.now) room.old.left) (swept_of result room.new.top room.new.left) }
 {
     for r in order {
         apply_row(base, work, room, env, sub, *r as usize)?;
@@ -152,10 +152,10 @@ pub fn apply_env(
 }
 
 // Whether the variable of word x stands in the type of a predicate of the list ps.
-fn in_preds(base: Base, work: &[u64], top: usize, ps: usize, x: usize) -> bool
-    requires names { Names base.names.now }
-    requires node { Node (base.words.now ++ work.now) top ps }
-    ensures { result ≡ elem tyvars (tyvar_of base.entry.names.now x) (ftv_preds (preds_of_word base.entry.names.now (base.entry.words.now ++ work.now) ps) []) }
+fn in_preds(base: &Base, work: &[u64], top: usize, ps: usize, x: usize) -> bool
+    requires names { Names base.now.names.now }
+    requires node { Node (base.now.words.now ++ work.now) top ps }
+    ensures { result ≡ elem tyvars (tyvar_of base.now.names.now x) (ftv_preds (preds_of_word base.now.names.now (base.now.words.now ++ work.now) ps) []) }
 {
     // No heap: the list is cells of the table, which no iterator walks.
     let mut l = ps;
@@ -169,12 +169,12 @@ fn in_preds(base: Base, work: &[u64], top: usize, ps: usize, x: usize) -> bool
 }
 
 // Whether the variable of word x is free in a scheme.
-fn in_scheme(base: Base, work: &[u64], top: usize, scheme: Scheme, x: usize) -> bool
-    requires names { Names base.names.now }
-    requires node { Node (base.words.now ++ work.now) top scheme.vars }
-    requires node_2 { Node (base.words.now ++ work.now) top scheme.preds }
-    requires node_3 { Node (base.words.now ++ work.now) top scheme.ty }
-    ensures { result ≡ elem tyvars (tyvar_of base.entry.names.now x) (ftv_scheme (scheme_of_word base.entry.names.now (base.entry.words.now ++ work.now) scheme.vars scheme.preds scheme.ty)) }
+fn in_scheme(base: &Base, work: &[u64], top: usize, scheme: Scheme, x: usize) -> bool
+    requires names { Names base.now.names.now }
+    requires node { Node (base.now.words.now ++ work.now) top scheme.vars }
+    requires node_2 { Node (base.now.words.now ++ work.now) top scheme.preds }
+    requires node_3 { Node (base.now.words.now ++ work.now) top scheme.ty }
+    ensures { result ≡ elem tyvars (tyvar_of base.now.names.now x) (ftv_scheme (scheme_of_word base.now.names.now (base.now.words.now ++ work.now) scheme.vars scheme.preds scheme.ty)) }
 {
     if vars::has_var(base, work, top, scheme.vars, x) {
         return false;
@@ -186,11 +186,11 @@ fn in_scheme(base: Base, work: &[u64], top: usize, scheme: Scheme, x: usize) -> 
 }
 
 // Whether the variable of word x is free in the scheme of row r.
-fn in_row(base: Base, work: &[u64], env: &[u64], top: usize, r: usize, x: usize) -> bool
-    requires names { Names base.names.now }
+fn in_row(base: &Base, work: &[u64], env: &[u64], top: usize, r: usize, x: usize) -> bool
+    requires names { Names base.now.names.now }
     requires r_in_bounds { 4 * r + 4 ≤ length env.now }
-    requires entry_in { EntryIn base.names.now (base.words.now ++ work.now) top (entry_of env.now r) }
-    ensures { result ≡ elem tyvars (tyvar_of base.entry.names.now x) (ftv_in (scheme_in base.entry.names.now (base.entry.words.now ++ work.now) (entry_of env.now r))) }
+    requires entry_in { EntryIn base.now.names.now (base.now.words.now ++ work.now) top (entry_of env.now r) }
+    ensures { result ≡ elem tyvars (tyvar_of base.now.names.now x) (ftv_in (scheme_in base.now.names.now (base.now.words.now ++ work.now) (entry_of env.now r))) }
 {
     let e = row_at(env, r);
     match e {
@@ -201,10 +201,10 @@ fn in_row(base: Base, work: &[u64], env: &[u64], top: usize, r: usize, x: usize)
 }
 
 // Whether the variable of word x is free in the environment: whether `env_ftv` has it.
-pub fn is_free(base: Base, work: &[u64], env: Env, top: usize, x: usize) -> bool
-    requires names { Names base.names.now }
-    requires scope { Scope base.names.now (base.words.now ++ work.now) env.rows.now env.order.now top }
-    ensures { result ≡ elem tyvars (tyvar_of base.entry.names.now x) (env_ftv (env_of base.entry.names.now (base.entry.words.now ++ work.now) env.entry.rows.now env.entry.order.now)) }
+pub fn is_free(base: &Base, work: &[u64], env: Env, top: usize, x: usize) -> bool
+    requires names { Names base.now.names.now }
+    requires scope { Scope base.now.names.now (base.now.words.now ++ work.now) env.rows.now env.order.now top }
+    ensures { result ≡ elem tyvars (tyvar_of base.now.names.now x) (env_ftv (env_of base.now.names.now (base.now.words.now ++ work.now) env.entry.rows.now env.entry.order.now)) }
 {
     for r in env.order {
         if in_row(base, work, env.rows, top, *r as usize, x) {

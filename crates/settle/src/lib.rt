@@ -28,7 +28,7 @@ pub struct Rest {
 // Of the first n rows those with equal predicates are replaced by the first, and those that are deferred come to the front.
 // Gives how many are deferred.
 fn sort_out(
-    base: Base,
+    base: &Base,
     work: &[u64],
     env: Env,
     binders: &mut [u64],
@@ -36,10 +36,10 @@ fn sort_out(
     n: usize,
     t: usize,
 ) -> usize
-    requires { ReadyOwn base.names.now (base.words.now ++ work.now) env.rows.now env.order.now binders.old top n t }
-    ensures { GivesSorted (ftv_type (tree base.entry.names.now (base.entry.words.now ++ work.now) t) [])
-        (env_ftv (env_of base.entry.names.now (base.entry.words.now ++ work.now) env.entry.rows.now env.entry.order.now))
-        base.entry.names.now (base.entry.words.now ++ work.now) binders.old binders.new n result }
+    requires { ReadyOwn base.now.names.now (base.now.words.now ++ work.now) env.rows.now env.order.now binders.old top n t }
+    ensures { GivesSorted (ftv_type (tree base.now.names.now (base.now.words.now ++ work.now) t) [])
+        (env_ftv (env_of base.now.names.now (base.now.words.now ++ work.now) env.entry.rows.now env.entry.order.now))
+        base.now.names.now (base.now.words.now ++ work.now) binders.old binders.new n result }
 {
     pending::own::alias_rows(base, work, env, binders, top, n, t);
     pending::own::defer_rows(base, work, env, binders, top, n, t)
@@ -47,7 +47,7 @@ fn sort_out(
 
 // The first n rows are simplified, and then all that were replaced replace names in the term e.
 fn replace(
-    base: Base,
+    base: &Base,
     work: &mut [u64],
     room: &mut Room,
     classes: &[u64],
@@ -56,9 +56,9 @@ fn replace(
     n: usize,
     e: usize,
 ) -> Result<usize, Refusal>
-    requires base_len_bound { length base.words.now ≤ 4 * room.old.top }
-    requires ready_replace { ReadyReplace base.names.now (base.words.now ++ work.old) binders.old room.old.top room.old.left sp n e }
-    ensures { GivesReplaced base.entry.names.now classes.now (base.entry.words.now ++ work.old) (base.entry.words.now ++ work.new)
+    requires base_len_bound { length base.now.words.now ≤ 4 * room.old.top }
+    requires ready_replace { ReadyReplace base.now.names.now (base.now.words.now ++ work.old) binders.old room.old.top room.old.left sp n e }
+    ensures { GivesReplaced base.now.names.now classes.now (base.now.words.now ++ work.old) (base.now.words.now ++ work.new)
         binders.old binders.new room.old.top room.old.left sp n e (applied_of result room.new.top room.new.left) }
 {
     simplify::simplify_context(base, work, room, classes, binders, sp, n)?;
@@ -67,7 +67,7 @@ fn replace(
 
 // The same of the rows from number nd up to number n.
 fn replace_from(
-    base: Base,
+    base: &Base,
     work: &mut [u64],
     room: &mut Room,
     classes: &[u64],
@@ -79,9 +79,9 @@ fn replace_from(
 ) -> Result<usize, Refusal>
     requires nd_le_n { nd ≤ n }
     requires n_in_bounds { 3 * n ≤ length binders.old }
-    requires base_len_bound { length base.words.now ≤ 4 * room.old.top }
-    requires ready_replace { ReadyReplace base.names.now (base.words.now ++ work.old) binders.old room.old.top room.old.left sp n e }
-    ensures { GivesFrom base.entry.names.now classes.now (base.entry.words.now ++ work.old) (base.entry.words.now ++ work.new)
+    requires base_len_bound { length base.now.words.now ≤ 4 * room.old.top }
+    requires ready_replace { ReadyReplace base.now.names.now (base.now.words.now ++ work.old) binders.old room.old.top room.old.left sp n e }
+    ensures { GivesFrom base.now.names.now classes.now (base.now.words.now ++ work.old) (base.now.words.now ++ work.new)
         binders.old binders.new room.old.top room.old.left sp nd n e (applied_of result room.new.top room.new.left) }
 {
     let from = 3 * nd;
@@ -92,7 +92,7 @@ fn replace_from(
 // The first n rows, all pending, are reduced; of those that stay the deferred ones come to the front, and the others are
 // simplified. The term e gets the dictionaries for the names that were replaced.
 pub fn settle(
-    base: Base,
+    base: &Base,
     work: &mut [u64],
     room: &mut Room,
     rules: Rules,
@@ -103,9 +103,9 @@ pub fn settle(
     t: usize,
     e: usize,
 ) -> Result<Rest, Refusal>
-    requires base_len_bound { length base.words.now ≤ 4 * room.old.top }
-    requires ready_settle { ReadySettle base.names.now (base.words.now ++ work.old) rules.insts.now env.rows.now env.order.now binders.old room.old.top room.old.left sp n t e }
-    ensures { GivesSettled base.entry.names.now rules.entry.classes.now (base.entry.words.now ++ work.old) (base.entry.words.now ++ work.new)
+    requires base_len_bound { length base.now.words.now ≤ 4 * room.old.top }
+    requires ready_settle { ReadySettle base.now.names.now (base.now.words.now ++ work.old) rules.insts.now env.rows.now env.order.now binders.old room.old.top room.old.left sp n t e }
+    ensures { GivesSettled base.now.names.now rules.entry.classes.now (base.now.words.now ++ work.old) (base.now.words.now ++ work.new)
         rules.entry.insts.now env.entry.rows.now env.entry.order.now binders.old binders.new room.old.top room.old.left sp n t e (settled_of result room.new.top room.new.left) }
 {
     reduce::reduce(

@@ -12,7 +12,7 @@ use supers::rows::Row;
 // Row i is looked for in the others: it is marked meanwhile, so that the search passes over it. It is replaced where they
 // prove it, else it gets its class back.
 fn sift(
-    base: Base,
+    base: &Base,
     work: &mut [u64],
     room: &mut Room,
     classes: &[u64],
@@ -21,10 +21,10 @@ fn sift(
     n: usize,
     i: usize,
 ) -> Result<(), Refusal>
-    requires base_len_bound { length base.words.now ≤ 4 * room.old.top }
-    requires ready_simplify { ReadySimplify base.names.now (base.words.now ++ work.old) binders.old room.old.top room.old.left sp n }
+    requires base_len_bound { length base.now.words.now ≤ 4 * room.old.top }
+    requires ready_simplify { ReadySimplify base.now.names.now (base.now.words.now ++ work.old) binders.old room.old.top room.old.left sp n }
     requires i_lt_n { i < n }
-    ensures { Turn base.entry.names.now classes.now (base.entry.words.now ++ work.old) (base.entry.words.now ++ work.new)
+    ensures { Turn base.now.names.now classes.now (base.now.words.now ++ work.old) (base.now.words.now ++ work.new)
         binders.old binders.new room.old.top room.old.left sp n i (simplified_of result room.new.top room.new.left) }
 {
     let q = supers::rows::row_at(binders, i);
@@ -52,7 +52,7 @@ fn sift(
 
 // `simplify_context`: the first n rows, one after the other.
 pub fn simplify_context(
-    base: Base,
+    base: &Base,
     work: &mut [u64],
     room: &mut Room,
     classes: &[u64],
@@ -60,9 +60,9 @@ pub fn simplify_context(
     sp: usize,
     n: usize,
 ) -> Result<(), Refusal>
-    requires base_len_bound { length base.words.now ≤ 4 * room.old.top }
-    requires ready_simplify { ReadySimplify base.names.now (base.words.now ++ work.old) binders.old room.old.top room.old.left sp n }
-    ensures { GivesSimplified base.entry.names.now classes.now (base.entry.words.now ++ work.old) (base.entry.words.now ++ work.new)
+    requires base_len_bound { length base.now.words.now ≤ 4 * room.old.top }
+    requires ready_simplify { ReadySimplify base.now.names.now (base.now.words.now ++ work.old) binders.old room.old.top room.old.left sp n }
+    ensures { GivesSimplified base.now.names.now classes.now (base.now.words.now ++ work.old) (base.now.words.now ++ work.new)
         binders.old binders.new room.old.top room.old.left sp n (simplified_of result room.new.top room.new.left) }
 {
     for i in 0..n {

@@ -12,7 +12,7 @@ use Rattle.meaning.specs.Base.{if}
 use Rattle.supers.specs.ClassTable.{declared_at, super_at, supers_f, supers_from}
 use Rattle.std.specs.Prelude.{Option, Some, None}
 
--- None, whatever a test says.
+-- Nothing, whatever a test says.
 either : (b : Bool) → ◌≡◌ {A = Option ℕ} (if b None None) None
 either true = refl
 either false = refl

@@ -78,16 +78,16 @@ pub fn super_at(classes: &[u64], c: usize, i: usize) -> Option<usize>
 
 // The first given of the list l, which is the i-th of its context.
 pub fn listed_at(
-    base: Base,
+    base: &Base,
     work: &[u64],
     top: usize,
     root: Root,
     l: usize,
     i: usize,
 ) -> Option<Given>
-    requires node { Node (base.words.now ++ work.now) top l }
-    requires few { Few base.names.now (base.words.now ++ work.now) root i l }
-    ensures { ListedAt base.entry.names.now (base.entry.words.now ++ work.now) top root i l result }
+    requires node { Node (base.now.words.now ++ work.now) top l }
+    requires few { Few base.now.names.now (base.now.words.now ++ work.now) root i l }
+    ensures { ListedAt base.now.names.now (base.now.words.now ++ work.now) top root i l result }
 {
     let c = ast::cell_at(base, work, l);
     match c {
@@ -115,7 +115,7 @@ pub fn listed_at(
 // The first entry of the givens' lists that is the goal, the class goal at the type t; where it must be proper, no given
 // itself. The givens begin at l. The frames of the walk lie below sp.
 pub fn search_in(
-    base: Base,
+    base: &Base,
     work: &mut [u64],
     room: &mut Room,
     classes: &[u64],
@@ -127,11 +127,11 @@ pub fn search_in(
     goal: usize,
     t: usize,
 ) -> Result<Option<usize>, Refusal>
-    requires base_len_bound { length base.words.now ≤ 4 * room.old.top }
-    requires ready_in { ReadyIn base.names.now (base.words.now ++ work.old) binders.now room.old.top room.old.left sp source 0 l t }
-    ensures gives { GivesFound base.entry.names.now classes.now (base.entry.words.now ++ work.old) (base.entry.words.now ++ work.new) room.old.top room.old.left sp
-        (λ ce. from_givens ce (givens_in base.entry.names.now (base.entry.words.now ++ work.old) binders.now source 0 l)
-        (hits proper (pred (name_of base.entry.names.now goal) (tree base.entry.names.now (base.entry.words.now ++ work.old) t))) room.old.left) (searched_of result room.new.top room.new.left) }
+    requires base_len_bound { length base.now.words.now ≤ 4 * room.old.top }
+    requires ready_in { ReadyIn base.now.names.now (base.now.words.now ++ work.old) binders.now room.old.top room.old.left sp source 0 l t }
+    ensures gives { GivesFound base.now.names.now classes.now (base.now.words.now ++ work.old) (base.now.words.now ++ work.new) room.old.top room.old.left sp
+        (λ ce. from_givens ce (givens_in base.now.names.now (base.now.words.now ++ work.old) binders.now source 0 l)
+        (hits proper (pred (name_of base.now.names.now goal) (tree base.now.names.now (base.now.words.now ++ work.old) t))) room.old.left) (searched_of result room.new.top room.new.left) }
     ensures stays { result ≡ Ok None → room.new.top ≡ room.old.top }
 {
     let top = room.top;
@@ -184,7 +184,7 @@ pub fn search_in(
 
 // The same over a list of the table.
 pub fn search(
-    base: Base,
+    base: &Base,
     work: &mut [u64],
     room: &mut Room,
     classes: &[u64],
@@ -195,11 +195,11 @@ pub fn search(
     goal: usize,
     t: usize,
 ) -> Result<Option<usize>, Refusal>
-    requires base_len_bound { length base.words.now ≤ 4 * room.old.top }
-    requires ready_search { ReadySearch base.names.now (base.words.now ++ work.old) room.old.top room.old.left sp root 0 l t }
-    ensures gives { GivesFound base.entry.names.now classes.now (base.entry.words.now ++ work.old) (base.entry.words.now ++ work.new) room.old.top room.old.left sp
-        (λ ce. from_givens ce (givens_of base.entry.names.now (base.entry.words.now ++ work.old) root 0 l)
-        (hits proper (pred (name_of base.entry.names.now goal) (tree base.entry.names.now (base.entry.words.now ++ work.old) t))) room.old.left) (searched_of result room.new.top room.new.left) }
+    requires base_len_bound { length base.now.words.now ≤ 4 * room.old.top }
+    requires ready_search { ReadySearch base.now.names.now (base.now.words.now ++ work.old) room.old.top room.old.left sp root 0 l t }
+    ensures gives { GivesFound base.now.names.now classes.now (base.now.words.now ++ work.old) (base.now.words.now ++ work.new) room.old.top room.old.left sp
+        (λ ce. from_givens ce (givens_of base.now.names.now (base.now.words.now ++ work.old) root 0 l)
+        (hits proper (pred (name_of base.now.names.now goal) (tree base.now.names.now (base.now.words.now ++ work.old) t))) room.old.left) (searched_of result room.new.top room.new.left) }
     ensures stays { result ≡ Ok None → room.new.top ≡ room.old.top }
 {
     let none = [0u64; 0];
@@ -220,7 +220,7 @@ pub fn search(
 
 // `resolve_from_givens`: the first entry equal to the goal.
 pub fn resolve_from_givens(
-    base: Base,
+    base: &Base,
     work: &mut [u64],
     room: &mut Room,
     classes: &[u64],
@@ -230,11 +230,11 @@ pub fn resolve_from_givens(
     goal: usize,
     t: usize,
 ) -> Result<Option<usize>, Refusal>
-    requires base_len_bound { length base.words.now ≤ 4 * room.old.top }
-    requires ready_search { ReadySearch base.names.now (base.words.now ++ work.old) room.old.top room.old.left sp root 0 l t }
-    ensures gives { GivesFound base.entry.names.now classes.now (base.entry.words.now ++ work.old) (base.entry.words.now ++ work.new) room.old.top room.old.left sp
-        (λ ce. resolve_from_givens ce (givens_of base.entry.names.now (base.entry.words.now ++ work.old) root 0 l)
-        (pred (name_of base.entry.names.now goal) (tree base.entry.names.now (base.entry.words.now ++ work.old) t)) room.old.left) (searched_of result room.new.top room.new.left) }
+    requires base_len_bound { length base.now.words.now ≤ 4 * room.old.top }
+    requires ready_search { ReadySearch base.now.names.now (base.now.words.now ++ work.old) room.old.top room.old.left sp root 0 l t }
+    ensures gives { GivesFound base.now.names.now classes.now (base.now.words.now ++ work.old) (base.now.words.now ++ work.new) room.old.top room.old.left sp
+        (λ ce. resolve_from_givens ce (givens_of base.now.names.now (base.now.words.now ++ work.old) root 0 l)
+        (pred (name_of base.now.names.now goal) (tree base.now.names.now (base.now.words.now ++ work.old) t)) room.old.left) (searched_of result room.new.top room.new.left) }
     ensures stays { result ≡ Ok None → room.new.top ≡ room.old.top }
 {
     search(base, work, room, classes, sp, root, l, false, goal, t)
@@ -242,7 +242,7 @@ pub fn resolve_from_givens(
 
 // `find_super_proof`: the first projection of a binder that is the goal.
 pub fn find_super_proof(
-    base: Base,
+    base: &Base,
     work: &mut [u64],
     room: &mut Room,
     classes: &[u64],
@@ -251,11 +251,11 @@ pub fn find_super_proof(
     goal: usize,
     t: usize,
 ) -> Result<Option<usize>, Refusal>
-    requires base_len_bound { length base.words.now ≤ 4 * room.old.top }
-    requires ready_search { ReadySearch base.names.now (base.words.now ++ work.old) room.old.top room.old.left sp Root.Binder 0 l t }
-    ensures gives { GivesFound base.entry.names.now classes.now (base.entry.words.now ++ work.old) (base.entry.words.now ++ work.new) room.old.top room.old.left sp
-        (λ ce. find_super_proof ce (binders_of_word base.entry.names.now (base.entry.words.now ++ work.old) l)
-        (pred (name_of base.entry.names.now goal) (tree base.entry.names.now (base.entry.words.now ++ work.old) t)) room.old.left) (searched_of result room.new.top room.new.left) }
+    requires base_len_bound { length base.now.words.now ≤ 4 * room.old.top }
+    requires ready_search { ReadySearch base.now.names.now (base.now.words.now ++ work.old) room.old.top room.old.left sp Root.Binder 0 l t }
+    ensures gives { GivesFound base.now.names.now classes.now (base.now.words.now ++ work.old) (base.now.words.now ++ work.new) room.old.top room.old.left sp
+        (λ ce. find_super_proof ce (binders_of_word base.now.names.now (base.now.words.now ++ work.old) l)
+        (pred (name_of base.now.names.now goal) (tree base.now.names.now (base.now.words.now ++ work.old) t)) room.old.left) (searched_of result room.new.top room.new.left) }
     ensures stays { result ≡ Ok None → room.new.top ≡ room.old.top }
 {
     search(

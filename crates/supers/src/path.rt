@@ -21,7 +21,7 @@ pub enum Entered {
 // The entry of class s below d others takes a step, and a frame with none of its superclasses taken. It is the goal if it
 // has the goal's class, the types are the same and it is not barred, as a given is where the entry must be proper.
 pub fn enter(
-    base: Base,
+    base: &Base,
     work: &mut [u64],
     sp: usize,
     d: usize,
@@ -31,9 +31,9 @@ pub fn enter(
     same: bool,
     barred: bool,
 ) -> Entered
-    requires d_len_bound { length base.words.now + 8 * left + 2 * d ≤ sp }
-    requires sp_in_bounds { sp ≤ length (base.words.now ++ work.old) }
-    ensures { Enters (base.entry.words.now ++ work.old) (base.entry.words.now ++ work.new) sp d left s goal same barred result }
+    requires d_len_bound { length base.now.words.now + 8 * left + 2 * d ≤ sp }
+    requires sp_in_bounds { sp ≤ length (base.now.words.now ++ work.old) }
+    ensures { Enters (base.now.words.now ++ work.old) (base.now.words.now ++ work.new) sp d left s goal same barred result }
 {
     if d >= DEPTH {
         return Entered::Deep;
@@ -57,7 +57,7 @@ pub fn enter(
 
 // The next superclass of the last of d frames is taken and entered.
 pub fn turn(
-    base: Base,
+    base: &Base,
     work: &mut [u64],
     classes: &[u64],
     sp: usize,
@@ -67,9 +67,9 @@ pub fn turn(
     same: bool,
 ) -> Entered
     requires d_nonzero { 0 < d }
-    requires d_len_bound { length base.words.now + 8 * left + 2 * d ≤ sp }
-    requires sp_in_bounds { sp ≤ length (base.words.now ++ work.old) }
-    ensures { Turns classes.now (base.entry.words.now ++ work.old) (base.entry.words.now ++ work.new) sp d left goal same result }
+    requires d_len_bound { length base.now.words.now + 8 * left + 2 * d ≤ sp }
+    requires sp_in_bounds { sp ≤ length (base.now.words.now ++ work.old) }
+    ensures { Turns classes.now (base.now.words.now ++ work.old) (base.now.words.now ++ work.new) sp d left goal same result }
 {
     let at = sp - 2 * d;
     let c = ast::index(base, work, at);
@@ -85,12 +85,12 @@ pub fn turn(
 }
 
 // The projections along the frames, from the dictionary e outward: one for each frame after the first.
-pub fn build(base: Base, work: &mut [u64], room: &mut Room, sp: usize, d: usize, e: usize) -> usize
-    requires base_len_bound { length base.words.now ≤ 4 * room.old.top }
+pub fn build(base: &Base, work: &mut [u64], room: &mut Room, sp: usize, d: usize, e: usize) -> usize
+    requires base_len_bound { length base.now.words.now ≤ 4 * room.old.top }
     requires d_bound { 4 * room.old.top + 4 * d + 2 * d + 2 ≤ sp }
-    requires sp_in_bounds { sp ≤ length (base.words.now ++ work.old) }
-    requires node { Node (base.words.now ++ work.old) room.old.top e }
-    ensures built { Built (base.entry.words.now ++ work.old) (base.entry.words.now ++ work.new) room.old.top sp d e result }
+    requires sp_in_bounds { sp ≤ length (base.now.words.now ++ work.old) }
+    requires node { Node (base.now.words.now ++ work.old) room.old.top e }
+    ensures built { Built (base.now.words.now ++ work.old) (base.now.words.now ++ work.new) room.old.top sp d e result }
     ensures top { room.new.top ≡ room.old.top + d }
     ensures left { room.new.left ≡ room.old.left }
 {

@@ -59,7 +59,7 @@ pub fn next_row(binders: &[u64], j: usize, n: usize) -> Option<Given>
 
 // The first given from l on, which is the i-th.
 pub fn given_in(
-    base: Base,
+    base: &Base,
     work: &[u64],
     binders: &[u64],
     top: usize,
@@ -67,8 +67,8 @@ pub fn given_in(
     l: usize,
     i: usize,
 ) -> Option<Given>
-    requires { GivensReady base.names.now (base.words.now ++ work.now) binders.now top source i l }
-    ensures { GivenAt base.entry.names.now (base.entry.words.now ++ work.now) binders.now top source i l result }
+    requires { GivensReady base.now.names.now (base.now.words.now ++ work.now) binders.now top source i l }
+    ensures { GivenAt base.now.names.now (base.now.words.now ++ work.now) binders.now top source i l result }
 {
     match source {
         Source::Listed(root) => crate::listed_at(base, work, top, root, l, i),
@@ -78,7 +78,7 @@ pub fn given_in(
 
 // `find_super_proof` over the first n rows: the first projection of a pending one that is the goal.
 pub fn find_super_row(
-    base: Base,
+    base: &Base,
     work: &mut [u64],
     room: &mut Room,
     classes: &[u64],
@@ -88,11 +88,11 @@ pub fn find_super_row(
     goal: usize,
     t: usize,
 ) -> Result<Option<usize>, Refusal>
-    requires base_len_bound { length base.words.now ≤ 4 * room.old.top }
-    requires ready_in { ReadyIn base.names.now (base.words.now ++ work.old) binders.now room.old.top room.old.left sp (Source.Rows n) 0 0 t }
-    ensures gives { GivesFound base.entry.names.now classes.now (base.entry.words.now ++ work.old) (base.entry.words.now ++ work.new) room.old.top room.old.left sp
-        (λ ce. find_super_proof ce (binders_in base.entry.names.now (base.entry.words.now ++ work.old) binders.now 0 n)
-        (pred (name_of base.entry.names.now goal) (tree base.entry.names.now (base.entry.words.now ++ work.old) t)) room.old.left) (searched_of result room.new.top room.new.left) }
+    requires base_len_bound { length base.now.words.now ≤ 4 * room.old.top }
+    requires ready_in { ReadyIn base.now.names.now (base.now.words.now ++ work.old) binders.now room.old.top room.old.left sp (Source.Rows n) 0 0 t }
+    ensures gives { GivesFound base.now.names.now classes.now (base.now.words.now ++ work.old) (base.now.words.now ++ work.new) room.old.top room.old.left sp
+        (λ ce. find_super_proof ce (binders_in base.now.names.now (base.now.words.now ++ work.old) binders.now 0 n)
+        (pred (name_of base.now.names.now goal) (tree base.now.names.now (base.now.words.now ++ work.old) t)) room.old.left) (searched_of result room.new.top room.new.left) }
     ensures stays { result ≡ Ok None → room.new.top ≡ room.old.top }
 {
     crate::search_in(

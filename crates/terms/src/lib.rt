@@ -23,7 +23,7 @@ use errors::Refusal;
 // `subst_core` of the term e with so much depth left, where the first n rows replace and nothing is hidden.
 #[cycle(in_abs_in_call_in_dict_abs_in_dict_app_in_let_in_method_in_super_in_each_subst_core)]
 pub fn subst_core(
-    base: Base,
+    base: &Base,
     work: &mut [u64],
     room: &mut Room,
     binders: &[u64],
@@ -31,10 +31,10 @@ pub fn subst_core(
     n: usize,
     e: usize,
 ) -> Result<usize, Refusal>
-    requires base_len_bound { length base.words.now ≤ 4 * room.old.top }
-    requires ready_term { ReadyTerm (base.words.now ++ work.old) binders.now room.old.top room.old.left n e }
-    ensures { GivesTerm core 4 (base.entry.words.now ++ work.old) (base.entry.words.now ++ work.new) room.old.top room.old.left
-        (λ ns. plain_in depth (replaced_in ns (base.entry.words.now ++ work.old) binders.now n) (core ns (base.entry.words.now ++ work.old) e) room.old.left) (applied_of result room.new.top room.new.left) }
+    requires base_len_bound { length base.now.words.now ≤ 4 * room.old.top }
+    requires ready_term { ReadyTerm (base.now.words.now ++ work.old) binders.now room.old.top room.old.left n e }
+    ensures { GivesTerm core 4 (base.now.words.now ++ work.old) (base.now.words.now ++ work.new) room.old.top room.old.left
+        (λ ns. plain_in depth (replaced_in ns (base.now.words.now ++ work.old) binders.now n) (core ns (base.now.words.now ++ work.old) e) room.old.left) (applied_of result room.new.top room.new.left) }
 {
     if depth == 0 {
         return Err(Refusal::Depth);
@@ -66,7 +66,7 @@ pub fn subst_core(
 // The same at the function from the name x to the term b.
 #[cycle(in_abs_in_call_in_dict_abs_in_dict_app_in_let_in_method_in_super_in_each_subst_core)]
 fn in_abs(
-    base: Base,
+    base: &Base,
     work: &mut [u64],
     room: &mut Room,
     binders: &[u64],
@@ -75,10 +75,10 @@ fn in_abs(
     x: usize,
     b: usize,
 ) -> Result<usize, Refusal>
-    requires base_len_bound { length base.words.now ≤ 4 * room.old.top }
-    requires ready_term { ReadyTerm (base.words.now ++ work.old) binders.now room.old.top room.old.left n b }
-    ensures { GivesTerm core 0 (base.entry.words.now ++ work.old) (base.entry.words.now ++ work.new) room.old.top room.old.left
-        (λ ns. node_out ns (base.entry.words.now ++ work.old) binders.now n depth room.old.left (cabs (name_of ns x) (core ns (base.entry.words.now ++ work.old) b))) (applied_of result room.new.top room.new.left) }
+    requires base_len_bound { length base.now.words.now ≤ 4 * room.old.top }
+    requires ready_term { ReadyTerm (base.now.words.now ++ work.old) binders.now room.old.top room.old.left n b }
+    ensures { GivesTerm core 0 (base.now.words.now ++ work.old) (base.now.words.now ++ work.new) room.old.top room.old.left
+        (λ ns. node_out ns (base.now.words.now ++ work.old) binders.now n depth room.old.left (cabs (name_of ns x) (core ns (base.now.words.now ++ work.old) b))) (applied_of result room.new.top room.new.left) }
 {
     let m = subst_core(base, work, room, binders, depth, n, b)?;
     Ok(cores::push_abs(base, work, room, x, m))
@@ -87,7 +87,7 @@ fn in_abs(
 // The same at the term f applied to the term a.
 #[cycle(in_abs_in_call_in_dict_abs_in_dict_app_in_let_in_method_in_super_in_each_subst_core)]
 fn in_call(
-    base: Base,
+    base: &Base,
     work: &mut [u64],
     room: &mut Room,
     binders: &[u64],
@@ -96,11 +96,11 @@ fn in_call(
     f: usize,
     a: usize,
 ) -> Result<usize, Refusal>
-    requires base_len_bound { length base.words.now ≤ 4 * room.old.top }
-    requires ready_term { ReadyTerm (base.words.now ++ work.old) binders.now room.old.top room.old.left n f }
-    requires node { Node (base.words.now ++ work.old) room.old.top a }
-    ensures { GivesTerm core 0 (base.entry.words.now ++ work.old) (base.entry.words.now ++ work.new) room.old.top room.old.left
-        (λ ns. node_out ns (base.entry.words.now ++ work.old) binders.now n depth room.old.left (capp (core ns (base.entry.words.now ++ work.old) f) (core ns (base.entry.words.now ++ work.old) a))) (applied_of result room.new.top room.new.left) }
+    requires base_len_bound { length base.now.words.now ≤ 4 * room.old.top }
+    requires ready_term { ReadyTerm (base.now.words.now ++ work.old) binders.now room.old.top room.old.left n f }
+    requires node { Node (base.now.words.now ++ work.old) room.old.top a }
+    ensures { GivesTerm core 0 (base.now.words.now ++ work.old) (base.now.words.now ++ work.new) room.old.top room.old.left
+        (λ ns. node_out ns (base.now.words.now ++ work.old) binders.now n depth room.old.left (capp (core ns (base.now.words.now ++ work.old) f) (core ns (base.now.words.now ++ work.old) a))) (applied_of result room.new.top room.new.left) }
 {
     let m = subst_core(base, work, room, binders, depth, n, f)?;
     let m2 = subst_core(base, work, room, binders, depth, n, a)?;
@@ -110,7 +110,7 @@ fn in_call(
 // The same at the term b in which the name x stands for the term a.
 #[cycle(in_abs_in_call_in_dict_abs_in_dict_app_in_let_in_method_in_super_in_each_subst_core)]
 fn in_let(
-    base: Base,
+    base: &Base,
     work: &mut [u64],
     room: &mut Room,
     binders: &[u64],
@@ -120,11 +120,11 @@ fn in_let(
     a: usize,
     b: usize,
 ) -> Result<usize, Refusal>
-    requires base_len_bound { length base.words.now ≤ 4 * room.old.top }
-    requires ready_term { ReadyTerm (base.words.now ++ work.old) binders.now room.old.top room.old.left n a }
-    requires node { Node (base.words.now ++ work.old) room.old.top b }
-    ensures { GivesTerm core 0 (base.entry.words.now ++ work.old) (base.entry.words.now ++ work.new) room.old.top room.old.left
-        (λ ns. node_out ns (base.entry.words.now ++ work.old) binders.now n depth room.old.left (clet (name_of ns x) (core ns (base.entry.words.now ++ work.old) a) (core ns (base.entry.words.now ++ work.old) b))) (applied_of result room.new.top room.new.left) }
+    requires base_len_bound { length base.now.words.now ≤ 4 * room.old.top }
+    requires ready_term { ReadyTerm (base.now.words.now ++ work.old) binders.now room.old.top room.old.left n a }
+    requires node { Node (base.now.words.now ++ work.old) room.old.top b }
+    ensures { GivesTerm core 0 (base.now.words.now ++ work.old) (base.now.words.now ++ work.new) room.old.top room.old.left
+        (λ ns. node_out ns (base.now.words.now ++ work.old) binders.now n depth room.old.left (clet (name_of ns x) (core ns (base.now.words.now ++ work.old) a) (core ns (base.now.words.now ++ work.old) b))) (applied_of result room.new.top room.new.left) }
 {
     let m = subst_core(base, work, room, binders, depth, n, a)?;
     let m2 = subst_core(base, work, room, binders, depth, n, b)?;
@@ -134,7 +134,7 @@ fn in_let(
 // The same at the term b under the binders of the list v, which stays.
 #[cycle(in_abs_in_call_in_dict_abs_in_dict_app_in_let_in_method_in_super_in_each_subst_core)]
 fn in_dict_abs(
-    base: Base,
+    base: &Base,
     work: &mut [u64],
     room: &mut Room,
     binders: &[u64],
@@ -143,11 +143,11 @@ fn in_dict_abs(
     v: usize,
     b: usize,
 ) -> Result<usize, Refusal>
-    requires base_len_bound { length base.words.now ≤ 4 * room.old.top }
-    requires ready_term { ReadyTerm (base.words.now ++ work.old) binders.now room.old.top room.old.left n b }
-    requires node { Node (base.words.now ++ work.old) room.old.top v }
-    ensures { GivesTerm core 0 (base.entry.words.now ++ work.old) (base.entry.words.now ++ work.new) room.old.top room.old.left
-        (λ ns. node_out ns (base.entry.words.now ++ work.old) binders.now n depth room.old.left (dict_abs (binders_of_word ns (base.entry.words.now ++ work.old) v) (core ns (base.entry.words.now ++ work.old) b))) (applied_of result room.new.top room.new.left) }
+    requires base_len_bound { length base.now.words.now ≤ 4 * room.old.top }
+    requires ready_term { ReadyTerm (base.now.words.now ++ work.old) binders.now room.old.top room.old.left n b }
+    requires node { Node (base.now.words.now ++ work.old) room.old.top v }
+    ensures { GivesTerm core 0 (base.now.words.now ++ work.old) (base.now.words.now ++ work.new) room.old.top room.old.left
+        (λ ns. node_out ns (base.now.words.now ++ work.old) binders.now n depth room.old.left (dict_abs (binders_of_word ns (base.now.words.now ++ work.old) v) (core ns (base.now.words.now ++ work.old) b))) (applied_of result room.new.top room.new.left) }
 {
     let m = subst_core(base, work, room, binders, depth, n, b)?;
     Ok(cores::push_dict_abs(base, work, room, v, m))
@@ -156,7 +156,7 @@ fn in_dict_abs(
 // The same at the term f applied to the dictionaries of the list v.
 #[cycle(in_abs_in_call_in_dict_abs_in_dict_app_in_let_in_method_in_super_in_each_subst_core)]
 fn in_dict_app(
-    base: Base,
+    base: &Base,
     work: &mut [u64],
     room: &mut Room,
     binders: &[u64],
@@ -165,11 +165,11 @@ fn in_dict_app(
     f: usize,
     v: usize,
 ) -> Result<usize, Refusal>
-    requires base_len_bound { length base.words.now ≤ 4 * room.old.top }
-    requires ready_term { ReadyTerm (base.words.now ++ work.old) binders.now room.old.top room.old.left n f }
-    requires node { Node (base.words.now ++ work.old) room.old.top v }
-    ensures { GivesTerm core 0 (base.entry.words.now ++ work.old) (base.entry.words.now ++ work.new) room.old.top room.old.left
-        (λ ns. node_out ns (base.entry.words.now ++ work.old) binders.now n depth room.old.left (dict_app (core ns (base.entry.words.now ++ work.old) f) (cores ns (base.entry.words.now ++ work.old) v))) (applied_of result room.new.top room.new.left) }
+    requires base_len_bound { length base.now.words.now ≤ 4 * room.old.top }
+    requires ready_term { ReadyTerm (base.now.words.now ++ work.old) binders.now room.old.top room.old.left n f }
+    requires node { Node (base.now.words.now ++ work.old) room.old.top v }
+    ensures { GivesTerm core 0 (base.now.words.now ++ work.old) (base.now.words.now ++ work.new) room.old.top room.old.left
+        (λ ns. node_out ns (base.now.words.now ++ work.old) binders.now n depth room.old.left (dict_app (core ns (base.now.words.now ++ work.old) f) (cores ns (base.now.words.now ++ work.old) v))) (applied_of result room.new.top room.new.left) }
 {
     let m = subst_core(base, work, room, binders, depth, n, f)?;
     let m2 = lists::in_each(base, work, room, binders, depth, n, v)?;
@@ -179,7 +179,7 @@ fn in_dict_app(
 // The same at the method x of the dictionary a.
 #[cycle(in_abs_in_call_in_dict_abs_in_dict_app_in_let_in_method_in_super_in_each_subst_core)]
 fn in_method(
-    base: Base,
+    base: &Base,
     work: &mut [u64],
     room: &mut Room,
     binders: &[u64],
@@ -188,10 +188,10 @@ fn in_method(
     a: usize,
     x: usize,
 ) -> Result<usize, Refusal>
-    requires base_len_bound { length base.words.now ≤ 4 * room.old.top }
-    requires ready_term { ReadyTerm (base.words.now ++ work.old) binders.now room.old.top room.old.left n a }
-    ensures { GivesTerm core 0 (base.entry.words.now ++ work.old) (base.entry.words.now ++ work.new) room.old.top room.old.left
-        (λ ns. node_out ns (base.entry.words.now ++ work.old) binders.now n depth room.old.left (dict_proj (core ns (base.entry.words.now ++ work.old) a) (method (name_of ns x)))) (applied_of result room.new.top room.new.left) }
+    requires base_len_bound { length base.now.words.now ≤ 4 * room.old.top }
+    requires ready_term { ReadyTerm (base.now.words.now ++ work.old) binders.now room.old.top room.old.left n a }
+    ensures { GivesTerm core 0 (base.now.words.now ++ work.old) (base.now.words.now ++ work.new) room.old.top room.old.left
+        (λ ns. node_out ns (base.now.words.now ++ work.old) binders.now n depth room.old.left (dict_proj (core ns (base.now.words.now ++ work.old) a) (method (name_of ns x)))) (applied_of result room.new.top room.new.left) }
 {
     let m = subst_core(base, work, room, binders, depth, n, a)?;
     Ok(cores::push_method(base, work, room, m, x))
@@ -200,7 +200,7 @@ fn in_method(
 // The same at the dictionary of the superclass s in the dictionary a of the class c.
 #[cycle(in_abs_in_call_in_dict_abs_in_dict_app_in_let_in_method_in_super_in_each_subst_core)]
 fn in_super(
-    base: Base,
+    base: &Base,
     work: &mut [u64],
     room: &mut Room,
     binders: &[u64],
@@ -210,10 +210,10 @@ fn in_super(
     c: usize,
     s: usize,
 ) -> Result<usize, Refusal>
-    requires base_len_bound { length base.words.now ≤ 4 * room.old.top }
-    requires ready_term { ReadyTerm (base.words.now ++ work.old) binders.now room.old.top room.old.left n a }
-    ensures { GivesTerm core 0 (base.entry.words.now ++ work.old) (base.entry.words.now ++ work.new) room.old.top room.old.left
-        (λ ns. node_out ns (base.entry.words.now ++ work.old) binders.now n depth room.old.left (dict_proj (core ns (base.entry.words.now ++ work.old) a) (super (name_of ns c) (name_of ns s)))) (applied_of result room.new.top room.new.left) }
+    requires base_len_bound { length base.now.words.now ≤ 4 * room.old.top }
+    requires ready_term { ReadyTerm (base.now.words.now ++ work.old) binders.now room.old.top room.old.left n a }
+    ensures { GivesTerm core 0 (base.now.words.now ++ work.old) (base.now.words.now ++ work.new) room.old.top room.old.left
+        (λ ns. node_out ns (base.now.words.now ++ work.old) binders.now n depth room.old.left (dict_proj (core ns (base.now.words.now ++ work.old) a) (super (name_of ns c) (name_of ns s)))) (applied_of result room.new.top room.new.left) }
 {
     let m = subst_core(base, work, room, binders, depth, n, a)?;
     Ok(cores::push_proj(base, work, room, m, c, s))

@@ -13,7 +13,7 @@ use errors::Refusal;
 // The same at each term of the list v, left to right.
 #[cycle(in_abs_in_call_in_dict_abs_in_dict_app_in_let_in_method_in_super_in_each_subst_core)]
 pub fn in_each(
-    base: Base,
+    base: &Base,
     work: &mut [u64],
     room: &mut Room,
     binders: &[u64],
@@ -21,10 +21,10 @@ pub fn in_each(
     n: usize,
     v: usize,
 ) -> Result<usize, Refusal>
-    requires base_len_bound { length base.words.now ≤ 4 * room.old.top }
-    requires ready_term { ReadyTerm (base.words.now ++ work.old) binders.now room.old.top room.old.left n v }
-    ensures { GivesTerm cores 0 (base.entry.words.now ++ work.old) (base.entry.words.now ++ work.new) room.old.top room.old.left
-        (λ ns. each_core (plain_in depth (replaced_in ns (base.entry.words.now ++ work.old) binders.now n)) (cores ns (base.entry.words.now ++ work.old) v) room.old.left) (applied_of result room.new.top room.new.left) }
+    requires base_len_bound { length base.now.words.now ≤ 4 * room.old.top }
+    requires ready_term { ReadyTerm (base.now.words.now ++ work.old) binders.now room.old.top room.old.left n v }
+    ensures { GivesTerm cores 0 (base.now.words.now ++ work.old) (base.now.words.now ++ work.new) room.old.top room.old.left
+        (λ ns. each_core (plain_in depth (replaced_in ns (base.now.words.now ++ work.old) binders.now n)) (cores ns (base.now.words.now ++ work.old) v) room.old.left) (applied_of result room.new.top room.new.left) }
 {
     let c = ast::cell_at(base, work, v);
     match c {

@@ -28,7 +28,7 @@ pub struct Answer {
 
 // Type, rows and term get their last form.
 fn check_end(
-    base: Base,
+    base: &Base,
     work: &mut [u64],
     room: &mut Room,
     rules: Rules,
@@ -38,9 +38,9 @@ fn check_end(
     fresh: Fresh,
     of: Typed,
 ) -> Result<Answer, Refusal>
-    requires base_len_bound { length base.words.now ≤ 4 * room.old.top }
-    requires ready_rest { ReadyRest base.names.now (base.words.now ++ work.old) env.rows.now env.order.now rules.insts.now binders.old room.old.top room.old.left sp fresh.tv fresh.dv of.ty of.term of.pairs of.rows }
-    ensures { GivesK (AskedGeneral base.entry.names.now rules.entry.classes.now (base.entry.words.now ++ work.old) rules.entry.insts.now room.old.top (answer_of base.entry.names.now (base.entry.words.now ++ work.old) binders.old sp of.ty of.term of.pairs of.rows) (state_of base.entry.names.now (base.entry.words.now ++ work.old) env.entry.rows.now env.entry.order.now fresh.tv fresh.dv)) (λ ce. check_end ce (answer_of base.entry.names.now (base.entry.words.now ++ work.old) binders.old sp of.ty of.term of.pairs of.rows) (state_of base.entry.names.now (base.entry.words.now ++ work.old) env.entry.rows.now env.entry.order.now fresh.tv fresh.dv) room.old.left) base.entry.names.now (base.entry.words.now ++ work.old) (base.entry.words.now ++ work.new)
+    requires base_len_bound { length base.now.words.now ≤ 4 * room.old.top }
+    requires ready_rest { ReadyRest base.now.names.now (base.now.words.now ++ work.old) env.rows.now env.order.now rules.insts.now binders.old room.old.top room.old.left sp fresh.tv fresh.dv of.ty of.term of.pairs of.rows }
+    ensures { GivesK (AskedGeneral base.now.names.now rules.entry.classes.now (base.now.words.now ++ work.old) rules.entry.insts.now room.old.top (answer_of base.now.names.now (base.now.words.now ++ work.old) binders.old sp of.ty of.term of.pairs of.rows) (state_of base.now.names.now (base.now.words.now ++ work.old) env.entry.rows.now env.entry.order.now fresh.tv fresh.dv)) (λ ce. check_end ce (answer_of base.now.names.now (base.now.words.now ++ work.old) binders.old sp of.ty of.term of.pairs of.rows) (state_of base.now.names.now (base.now.words.now ++ work.old) env.entry.rows.now env.entry.order.now fresh.tv fresh.dv) room.old.left) base.now.names.now (base.now.words.now ++ work.old) (base.now.words.now ++ work.new)
         env.entry.rows.now env.entry.order.now binders.old binders.new room.old.top room.old.left sp fresh.tv fresh.dv (checked_of result room.new.top room.new.left) }
 {
     let at = sp - 2 * of.pairs;
@@ -57,7 +57,7 @@ fn check_end(
 
 // The pairs, which end at sp, are applied to the types of the rows.
 fn check_rows(
-    base: Base,
+    base: &Base,
     work: &mut [u64],
     room: &mut Room,
     rules: Rules,
@@ -67,9 +67,9 @@ fn check_rows(
     fresh: Fresh,
     of: Typed,
 ) -> Result<Answer, Refusal>
-    requires base_len_bound { length base.words.now ≤ 4 * room.old.top }
-    requires ready_rest { ReadyRest base.names.now (base.words.now ++ work.old) env.rows.now env.order.now rules.insts.now binders.old room.old.top room.old.left sp fresh.tv fresh.dv of.ty of.term of.pairs of.rows }
-    ensures { GivesK (AskedGeneral base.entry.names.now rules.entry.classes.now (base.entry.words.now ++ work.old) rules.entry.insts.now room.old.top (answer_of base.entry.names.now (base.entry.words.now ++ work.old) binders.old sp of.ty of.term of.pairs of.rows) (state_of base.entry.names.now (base.entry.words.now ++ work.old) env.entry.rows.now env.entry.order.now fresh.tv fresh.dv)) (λ ce. check_rows ce (answer_of base.entry.names.now (base.entry.words.now ++ work.old) binders.old sp of.ty of.term of.pairs of.rows) (state_of base.entry.names.now (base.entry.words.now ++ work.old) env.entry.rows.now env.entry.order.now fresh.tv fresh.dv) room.old.left) base.entry.names.now (base.entry.words.now ++ work.old) (base.entry.words.now ++ work.new)
+    requires base_len_bound { length base.now.words.now ≤ 4 * room.old.top }
+    requires ready_rest { ReadyRest base.now.names.now (base.now.words.now ++ work.old) env.rows.now env.order.now rules.insts.now binders.old room.old.top room.old.left sp fresh.tv fresh.dv of.ty of.term of.pairs of.rows }
+    ensures { GivesK (AskedGeneral base.now.names.now rules.entry.classes.now (base.now.words.now ++ work.old) rules.entry.insts.now room.old.top (answer_of base.now.names.now (base.now.words.now ++ work.old) binders.old sp of.ty of.term of.pairs of.rows) (state_of base.now.names.now (base.now.words.now ++ work.old) env.entry.rows.now env.entry.order.now fresh.tv fresh.dv)) (λ ce. check_rows ce (answer_of base.now.names.now (base.now.words.now ++ work.old) binders.old sp of.ty of.term of.pairs of.rows) (state_of base.now.names.now (base.now.words.now ++ work.old) env.entry.rows.now env.entry.order.now fresh.tv fresh.dv) room.old.left) base.now.names.now (base.now.words.now ++ work.old) (base.now.words.now ++ work.new)
         env.entry.rows.now env.entry.order.now binders.old binders.new room.old.top room.old.left sp fresh.tv fresh.dv (checked_of result room.new.top room.new.left) }
 {
     let k = of.pairs;
@@ -80,7 +80,7 @@ fn check_rows(
 
 // And before that to the type.
 fn check_after(
-    base: Base,
+    base: &Base,
     work: &mut [u64],
     room: &mut Room,
     rules: Rules,
@@ -90,9 +90,9 @@ fn check_after(
     fresh: Fresh,
     of: Typed,
 ) -> Result<Answer, Refusal>
-    requires base_len_bound { length base.words.now ≤ 4 * room.old.top }
-    requires ready_rest { ReadyRest base.names.now (base.words.now ++ work.old) env.rows.now env.order.now rules.insts.now binders.old room.old.top room.old.left sp fresh.tv fresh.dv of.ty of.term of.pairs of.rows }
-    ensures { GivesK (AskedGeneral base.entry.names.now rules.entry.classes.now (base.entry.words.now ++ work.old) rules.entry.insts.now room.old.top (answer_of base.entry.names.now (base.entry.words.now ++ work.old) binders.old sp of.ty of.term of.pairs of.rows) (state_of base.entry.names.now (base.entry.words.now ++ work.old) env.entry.rows.now env.entry.order.now fresh.tv fresh.dv)) (λ ce. check_after ce (answer_of base.entry.names.now (base.entry.words.now ++ work.old) binders.old sp of.ty of.term of.pairs of.rows) (state_of base.entry.names.now (base.entry.words.now ++ work.old) env.entry.rows.now env.entry.order.now fresh.tv fresh.dv) room.old.left) base.entry.names.now (base.entry.words.now ++ work.old) (base.entry.words.now ++ work.new)
+    requires base_len_bound { length base.now.words.now ≤ 4 * room.old.top }
+    requires ready_rest { ReadyRest base.now.names.now (base.now.words.now ++ work.old) env.rows.now env.order.now rules.insts.now binders.old room.old.top room.old.left sp fresh.tv fresh.dv of.ty of.term of.pairs of.rows }
+    ensures { GivesK (AskedGeneral base.now.names.now rules.entry.classes.now (base.now.words.now ++ work.old) rules.entry.insts.now room.old.top (answer_of base.now.names.now (base.now.words.now ++ work.old) binders.old sp of.ty of.term of.pairs of.rows) (state_of base.now.names.now (base.now.words.now ++ work.old) env.entry.rows.now env.entry.order.now fresh.tv fresh.dv)) (λ ce. check_after ce (answer_of base.now.names.now (base.now.words.now ++ work.old) binders.old sp of.ty of.term of.pairs of.rows) (state_of base.now.names.now (base.now.words.now ++ work.old) env.entry.rows.now env.entry.order.now fresh.tv fresh.dv) room.old.left) base.now.names.now (base.now.words.now ++ work.old) (base.now.words.now ++ work.new)
         env.entry.rows.now env.entry.order.now binders.old binders.new room.old.top room.old.left sp fresh.tv fresh.dv (checked_of result room.new.top room.new.left) }
 {
     let k = of.pairs;
@@ -113,7 +113,7 @@ fn check_after(
 
 // `check_expr`: the qualified type of expression i, and its term.
 pub fn check(
-    base: Base,
+    base: &Base,
     work: &mut [u64],
     room: &mut Room,
     file: File,
@@ -126,9 +126,9 @@ pub fn check(
     fresh: Fresh,
     i: usize,
 ) -> Result<Answer, Refusal>
-    requires base_len_bound { length base.words.now ≤ 4 * room.old.top }
-    requires ready_i { ReadyI 0 0 0 base.names.now (base.words.now ++ work.old) env.old order.now rules.insts.now binders.old room.old.top room.old.left sp fresh.tv fresh.dv }
-    ensures { GivesK (Asked file.entry.src.now base.entry.names.now file.entry.index.now (base.entry.words.now ++ work.old) rules.entry.classes.now methods.now rules.entry.insts.now env.old order.now room.old.top i) (λ p. check_expr p.0 p.1 (state_of base.entry.names.now (base.entry.words.now ++ work.old) env.old order.now fresh.tv fresh.dv) room.old.left) base.entry.names.now (base.entry.words.now ++ work.old) (base.entry.words.now ++ work.new)
+    requires base_len_bound { length base.now.words.now ≤ 4 * room.old.top }
+    requires ready_i { ReadyI 0 0 0 base.now.names.now (base.now.words.now ++ work.old) env.old order.now rules.insts.now binders.old room.old.top room.old.left sp fresh.tv fresh.dv }
+    ensures { GivesK (Asked file.entry.src.now base.now.names.now file.entry.index.now (base.now.words.now ++ work.old) rules.entry.classes.now methods.now rules.entry.insts.now env.old order.now room.old.top i) (λ p. check_expr p.0 p.1 (state_of base.now.names.now (base.now.words.now ++ work.old) env.old order.now fresh.tv fresh.dv) room.old.left) base.now.names.now (base.now.words.now ++ work.old) (base.now.words.now ++ work.new)
         env.new order.now binders.old binders.new room.old.top room.old.left sp fresh.tv fresh.dv (checked_of result room.new.top room.new.left) }
 {
     let of = infer::infer(

@@ -35,7 +35,7 @@ pub struct Let {
 
 // The scheme gets the row of name x, which says whether it is closed.
 fn let_put(
-    base: Base,
+    base: &Base,
     work: &[u64],
     room: Room,
     order: &[u64],
@@ -44,8 +44,8 @@ fn let_put(
     x: usize,
     scheme: Scheme,
 )
-    requires { ReadyPut base.names.now (base.words.now ++ work.now) env.old order.now room.top x scheme.vars scheme.preds scheme.ty }
-    ensures { EndsB Nothing (λ _. let_put (name_of base.entry.names.now x) (scheme_of_word base.entry.names.now (base.entry.words.now ++ work.now) scheme.vars scheme.preds scheme.ty) (state_of base.entry.names.now (base.entry.words.now ++ work.now) env.old order.now fresh.tv fresh.dv) room.left) base.entry.names.now (base.entry.words.now ++ work.now) env.new order.now room.top room.left fresh.tv fresh.dv (bound_of (Ok (record { scheme = scheme; fresh = fresh })) room.top room.left) }
+    requires { ReadyPut base.now.names.now (base.now.words.now ++ work.now) env.old order.now room.top x scheme.vars scheme.preds scheme.ty }
+    ensures { EndsB Nothing (λ _. let_put (name_of base.now.names.now x) (scheme_of_word base.now.names.now (base.now.words.now ++ work.now) scheme.vars scheme.preds scheme.ty) (state_of base.now.names.now (base.now.words.now ++ work.now) env.old order.now fresh.tv fresh.dv) room.left) base.now.names.now (base.now.words.now ++ work.now) env.new order.now room.top room.left fresh.tv fresh.dv (bound_of (Ok (record { scheme = scheme; fresh = fresh })) room.top room.left) }
 {
     let c = subst::is_closed(base, work, room.top, scheme);
     if c {
@@ -57,7 +57,7 @@ fn let_put(
 
 // The same where none of nd rows is deferred; the first one that is has no instance.
 fn let_end(
-    base: Base,
+    base: &Base,
     work: &[u64],
     room: Room,
     order: &[u64],
@@ -68,8 +68,8 @@ fn let_end(
     scheme: Scheme,
     nd: usize,
 ) -> Result<Let, Refusal>
-    requires { ReadyEnd base.names.now (base.words.now ++ work.now) env.old order.now binders.now room.top x scheme.vars scheme.preds scheme.ty nd }
-    ensures { EndsB Nothing (λ _. let_end (name_of base.entry.names.now x) (scheme_of_word base.entry.names.now (base.entry.words.now ++ work.now) scheme.vars scheme.preds scheme.ty) (binders_in base.entry.names.now (base.entry.words.now ++ work.now) binders.now 0 nd) (state_of base.entry.names.now (base.entry.words.now ++ work.now) env.old order.now fresh.tv fresh.dv) room.left) base.entry.names.now (base.entry.words.now ++ work.now) env.new order.now room.top room.left fresh.tv fresh.dv (bound_of result room.top room.left) }
+    requires { ReadyEnd base.now.names.now (base.now.words.now ++ work.now) env.old order.now binders.now room.top x scheme.vars scheme.preds scheme.ty nd }
+    ensures { EndsB Nothing (λ _. let_end (name_of base.now.names.now x) (scheme_of_word base.now.names.now (base.now.words.now ++ work.now) scheme.vars scheme.preds scheme.ty) (binders_in base.now.names.now (base.now.words.now ++ work.now) binders.now 0 nd) (state_of base.now.names.now (base.now.words.now ++ work.now) env.old order.now fresh.tv fresh.dv) room.left) base.now.names.now (base.now.words.now ++ work.now) env.new order.now room.top room.left fresh.tv fresh.dv (bound_of result room.top room.left) }
 {
     if nd == 0 {
         let_put(base, work, room, order, env, fresh, x, scheme);
@@ -84,7 +84,7 @@ fn let_end(
 
 // Type, rows and term are generalized.
 fn let_general(
-    base: Base,
+    base: &Base,
     work: &mut [u64],
     room: &mut Room,
     rules: Rules,
@@ -96,10 +96,10 @@ fn let_general(
     x: usize,
     bound: Typed,
 ) -> Result<Let, Refusal>
-    requires base_len_bound { length base.words.now ≤ 4 * room.old.top }
-    requires ready_rest { ReadyRest base.names.now (base.words.now ++ work.old) env.old order.now rules.insts.now binders.old room.old.top room.old.left sp fresh.tv fresh.dv bound.ty bound.term bound.pairs bound.rows }
+    requires base_len_bound { length base.now.words.now ≤ 4 * room.old.top }
+    requires ready_rest { ReadyRest base.now.names.now (base.now.words.now ++ work.old) env.old order.now rules.insts.now binders.old room.old.top room.old.left sp fresh.tv fresh.dv bound.ty bound.term bound.pairs bound.rows }
     requires x_in_bounds { x < length order.now }
-    ensures { GivesB (AskedGeneral base.entry.names.now rules.entry.classes.now (base.entry.words.now ++ work.old) rules.entry.insts.now room.old.top (answer_of base.entry.names.now (base.entry.words.now ++ work.old) binders.old sp bound.ty bound.term bound.pairs bound.rows) (state_of base.entry.names.now (base.entry.words.now ++ work.old) env.old order.now fresh.tv fresh.dv)) (λ ce. let_general ce (name_of base.entry.names.now x) (answer_of base.entry.names.now (base.entry.words.now ++ work.old) binders.old sp bound.ty bound.term bound.pairs bound.rows) (state_of base.entry.names.now (base.entry.words.now ++ work.old) env.old order.now fresh.tv fresh.dv) room.old.left) base.entry.names.now (base.entry.words.now ++ work.old) (base.entry.words.now ++ work.new)
+    ensures { GivesB (AskedGeneral base.now.names.now rules.entry.classes.now (base.now.words.now ++ work.old) rules.entry.insts.now room.old.top (answer_of base.now.names.now (base.now.words.now ++ work.old) binders.old sp bound.ty bound.term bound.pairs bound.rows) (state_of base.now.names.now (base.now.words.now ++ work.old) env.old order.now fresh.tv fresh.dv)) (λ ce. let_general ce (name_of base.now.names.now x) (answer_of base.now.names.now (base.now.words.now ++ work.old) binders.old sp bound.ty bound.term bound.pairs bound.rows) (state_of base.now.names.now (base.now.words.now ++ work.old) env.old order.now fresh.tv fresh.dv) room.old.left) base.now.names.now (base.now.words.now ++ work.old) (base.now.words.now ++ work.new)
         env.new order.now binders.old binders.new room.old.top room.old.left sp fresh.tv fresh.dv (bound_of result room.new.top room.new.left) }
 {
     let at = sp - 2 * bound.pairs;
@@ -122,7 +122,7 @@ fn let_general(
 
 // The pairs, which end at sp, are applied to the type.
 fn let_typed(
-    base: Base,
+    base: &Base,
     work: &mut [u64],
     room: &mut Room,
     rules: Rules,
@@ -134,10 +134,10 @@ fn let_typed(
     x: usize,
     bound: Typed,
 ) -> Result<Let, Refusal>
-    requires base_len_bound { length base.words.now ≤ 4 * room.old.top }
-    requires ready_rest { ReadyRest base.names.now (base.words.now ++ work.old) env.old order.now rules.insts.now binders.old room.old.top room.old.left sp fresh.tv fresh.dv bound.ty bound.term bound.pairs bound.rows }
+    requires base_len_bound { length base.now.words.now ≤ 4 * room.old.top }
+    requires ready_rest { ReadyRest base.now.names.now (base.now.words.now ++ work.old) env.old order.now rules.insts.now binders.old room.old.top room.old.left sp fresh.tv fresh.dv bound.ty bound.term bound.pairs bound.rows }
     requires x_in_bounds { x < length order.now }
-    ensures { GivesB (AskedGeneral base.entry.names.now rules.entry.classes.now (base.entry.words.now ++ work.old) rules.entry.insts.now room.old.top (answer_of base.entry.names.now (base.entry.words.now ++ work.old) binders.old sp bound.ty bound.term bound.pairs bound.rows) (state_of base.entry.names.now (base.entry.words.now ++ work.old) env.old order.now fresh.tv fresh.dv)) (λ ce. let_typed ce (name_of base.entry.names.now x) (answer_of base.entry.names.now (base.entry.words.now ++ work.old) binders.old sp bound.ty bound.term bound.pairs bound.rows) (state_of base.entry.names.now (base.entry.words.now ++ work.old) env.old order.now fresh.tv fresh.dv) room.old.left) base.entry.names.now (base.entry.words.now ++ work.old) (base.entry.words.now ++ work.new)
+    ensures { GivesB (AskedGeneral base.now.names.now rules.entry.classes.now (base.now.words.now ++ work.old) rules.entry.insts.now room.old.top (answer_of base.now.names.now (base.now.words.now ++ work.old) binders.old sp bound.ty bound.term bound.pairs bound.rows) (state_of base.now.names.now (base.now.words.now ++ work.old) env.old order.now fresh.tv fresh.dv)) (λ ce. let_typed ce (name_of base.now.names.now x) (answer_of base.now.names.now (base.now.words.now ++ work.old) binders.old sp bound.ty bound.term bound.pairs bound.rows) (state_of base.now.names.now (base.now.words.now ++ work.old) env.old order.now fresh.tv fresh.dv) room.old.left) base.now.names.now (base.now.words.now ++ work.old) (base.now.words.now ++ work.new)
         env.new order.now binders.old binders.new room.old.top room.old.left sp fresh.tv fresh.dv (bound_of result room.new.top room.new.left) }
 {
     let k = bound.pairs;
@@ -160,7 +160,7 @@ fn let_typed(
 
 // And before that to the types of the rows.
 fn let_after(
-    base: Base,
+    base: &Base,
     work: &mut [u64],
     room: &mut Room,
     rules: Rules,
@@ -172,10 +172,10 @@ fn let_after(
     x: usize,
     bound: Typed,
 ) -> Result<Let, Refusal>
-    requires base_len_bound { length base.words.now ≤ 4 * room.old.top }
-    requires ready_rest { ReadyRest base.names.now (base.words.now ++ work.old) env.old order.now rules.insts.now binders.old room.old.top room.old.left sp fresh.tv fresh.dv bound.ty bound.term bound.pairs bound.rows }
+    requires base_len_bound { length base.now.words.now ≤ 4 * room.old.top }
+    requires ready_rest { ReadyRest base.now.names.now (base.now.words.now ++ work.old) env.old order.now rules.insts.now binders.old room.old.top room.old.left sp fresh.tv fresh.dv bound.ty bound.term bound.pairs bound.rows }
     requires x_in_bounds { x < length order.now }
-    ensures { GivesB (AskedGeneral base.entry.names.now rules.entry.classes.now (base.entry.words.now ++ work.old) rules.entry.insts.now room.old.top (answer_of base.entry.names.now (base.entry.words.now ++ work.old) binders.old sp bound.ty bound.term bound.pairs bound.rows) (state_of base.entry.names.now (base.entry.words.now ++ work.old) env.old order.now fresh.tv fresh.dv)) (λ ce. let_after ce (name_of base.entry.names.now x) (answer_of base.entry.names.now (base.entry.words.now ++ work.old) binders.old sp bound.ty bound.term bound.pairs bound.rows) (state_of base.entry.names.now (base.entry.words.now ++ work.old) env.old order.now fresh.tv fresh.dv) room.old.left) base.entry.names.now (base.entry.words.now ++ work.old) (base.entry.words.now ++ work.new)
+    ensures { GivesB (AskedGeneral base.now.names.now rules.entry.classes.now (base.now.words.now ++ work.old) rules.entry.insts.now room.old.top (answer_of base.now.names.now (base.now.words.now ++ work.old) binders.old sp bound.ty bound.term bound.pairs bound.rows) (state_of base.now.names.now (base.now.words.now ++ work.old) env.old order.now fresh.tv fresh.dv)) (λ ce. let_after ce (name_of base.now.names.now x) (answer_of base.now.names.now (base.now.words.now ++ work.old) binders.old sp bound.ty bound.term bound.pairs bound.rows) (state_of base.now.names.now (base.now.words.now ++ work.old) env.old order.now fresh.tv fresh.dv) room.old.left) base.now.names.now (base.now.words.now ++ work.old) (base.now.words.now ++ work.new)
         env.new order.now binders.old binders.new room.old.top room.old.left sp fresh.tv fresh.dv (bound_of result room.new.top room.new.left) }
 {
     let k = bound.pairs;
@@ -188,7 +188,7 @@ fn let_after(
 
 // `process_let_decl`: expression i is what name x is bound to.
 pub fn process_let(
-    base: Base,
+    base: &Base,
     work: &mut [u64],
     room: &mut Room,
     file: File,
@@ -202,10 +202,10 @@ pub fn process_let(
     x: usize,
     i: usize,
 ) -> Result<Let, Refusal>
-    requires base_len_bound { length base.words.now ≤ 4 * room.old.top }
-    requires ready_i { ReadyI 0 0 0 base.names.now (base.words.now ++ work.old) env.old order.now rules.insts.now binders.old room.old.top room.old.left sp fresh.tv fresh.dv }
+    requires base_len_bound { length base.now.words.now ≤ 4 * room.old.top }
+    requires ready_i { ReadyI 0 0 0 base.now.names.now (base.now.words.now ++ work.old) env.old order.now rules.insts.now binders.old room.old.top room.old.left sp fresh.tv fresh.dv }
     requires x_bound { x < 1_059 }
-    ensures { GivesB (Asked file.entry.src.now base.entry.names.now file.entry.index.now (base.entry.words.now ++ work.old) rules.entry.classes.now methods.now rules.entry.insts.now env.old order.now room.old.top i) (λ p. process_let_decl p.0 (name_of base.entry.names.now x) p.1 (state_of base.entry.names.now (base.entry.words.now ++ work.old) env.old order.now fresh.tv fresh.dv) room.old.left) base.entry.names.now (base.entry.words.now ++ work.old) (base.entry.words.now ++ work.new)
+    ensures { GivesB (Asked file.entry.src.now base.now.names.now file.entry.index.now (base.now.words.now ++ work.old) rules.entry.classes.now methods.now rules.entry.insts.now env.old order.now room.old.top i) (λ p. process_let_decl p.0 (name_of base.now.names.now x) p.1 (state_of base.now.names.now (base.now.words.now ++ work.old) env.old order.now fresh.tv fresh.dv) room.old.left) base.now.names.now (base.now.words.now ++ work.old) (base.now.words.now ++ work.new)
         env.new order.now binders.old binders.new room.old.top room.old.left sp fresh.tv fresh.dv (bound_of result room.new.top room.new.left) }
 {
     let bound = infer::infer(

@@ -81,10 +81,10 @@ fn parts_within(file: File, i: usize, p: usize, k: usize, limit: usize) -> Optio
 
 // Takes type i into the table, as a tree, and answers its word.
 #[cycle(take_part_take_parts_take_type)]
-pub fn take_type(base: Base, work: &mut [u64], file: File, room: &mut Room, i: usize) -> usize
-    requires base_len_bound { length base.words.now ≤ 4 * room.old.top }
-    requires fits { Fits (base.words.now ++ work.old) room.old.top (λ (ns : List ℕ). size (type_of file.src.now ns file.index.now i)) }
-    ensures takes { Takes tree size 4 (base.entry.words.now ++ work.old) (base.entry.words.now ++ work.new) room.old.top
+pub fn take_type(base: &Base, work: &mut [u64], file: File, room: &mut Room, i: usize) -> usize
+    requires base_len_bound { length base.now.words.now ≤ 4 * room.old.top }
+    requires fits { Fits (base.now.words.now ++ work.old) room.old.top (λ (ns : List ℕ). size (type_of file.src.now ns file.index.now i)) }
+    ensures takes { Takes tree size 4 (base.now.words.now ++ work.old) (base.now.words.now ++ work.new) room.old.top
         (λ (ns : List ℕ). type_of file.entry.src.now ns file.entry.index.now i) (taken result room.new.top) }
     ensures left { room.new.left ≡ room.old.left }
 {
@@ -111,10 +111,17 @@ pub fn take_type(base: Base, work: &mut [u64], file: File, room: &mut Room, i: u
 
 // Takes the type of number j in type i.
 #[cycle(take_part_take_parts_take_type)]
-fn take_part(base: Base, work: &mut [u64], file: File, room: &mut Room, i: usize, j: usize) -> usize
-    requires base_len_bound { length base.words.now ≤ 4 * room.old.top }
-    requires fits { Fits (base.words.now ++ work.old) room.old.top (λ (ns : List ℕ). size (part_of file.src.now ns file.index.now i j)) }
-    ensures takes { Takes tree size 4 (base.entry.words.now ++ work.old) (base.entry.words.now ++ work.new) room.old.top
+fn take_part(
+    base: &Base,
+    work: &mut [u64],
+    file: File,
+    room: &mut Room,
+    i: usize,
+    j: usize,
+) -> usize
+    requires base_len_bound { length base.now.words.now ≤ 4 * room.old.top }
+    requires fits { Fits (base.now.words.now ++ work.old) room.old.top (λ (ns : List ℕ). size (part_of file.src.now ns file.index.now i j)) }
+    ensures takes { Takes tree size 4 (base.now.words.now ++ work.old) (base.now.words.now ++ work.new) room.old.top
         (λ (ns : List ℕ). part_of file.entry.src.now ns file.entry.index.now i j) (taken result room.new.top) }
     ensures left { room.new.left ≡ room.old.left }
 {
@@ -128,7 +135,7 @@ fn take_part(base: Base, work: &mut [u64], file: File, room: &mut Room, i: usize
 // after all arguments.)
 #[cycle(take_part_take_parts_take_type)]
 fn take_parts(
-    base: Base,
+    base: &Base,
     work: &mut [u64],
     file: File,
     room: &mut Room,
@@ -136,10 +143,10 @@ fn take_parts(
     p: usize,
     k: usize,
 ) -> usize
-    requires base_len_bound { length base.words.now ≤ 4 * room.old.top }
+    requires base_len_bound { length base.now.words.now ≤ 4 * room.old.top }
     requires k_in_bounds { p + 2 * k ≤ length file.src.now + 132 }
-    requires fits { Fits (base.words.now ++ work.old) room.old.top (λ (ns : List ℕ). sizes (parts_of file.src.now ns file.index.now i p k)) }
-    ensures takes { Takes list sizes 0 (base.entry.words.now ++ work.old) (base.entry.words.now ++ work.new) room.old.top
+    requires fits { Fits (base.now.words.now ++ work.old) room.old.top (λ (ns : List ℕ). sizes (parts_of file.src.now ns file.index.now i p k)) }
+    ensures takes { Takes list sizes 0 (base.now.words.now ++ work.old) (base.now.words.now ++ work.new) room.old.top
         (λ (ns : List ℕ). parts_of file.entry.src.now ns file.entry.index.now i p k) (taken result room.new.top) }
     ensures left { room.new.left ≡ room.old.left }
 {

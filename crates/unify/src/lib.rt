@@ -28,17 +28,17 @@ pub struct Pair {
 
 // The pairs applied to x and to y.
 fn both(
-    base: Base,
+    base: &Base,
     work: &mut [u64],
     room: &mut Room,
     end: Ending,
     x: usize,
     y: usize,
 ) -> Result<Pair, Refusal>
-    requires base_len_bound { length base.words.now ≤ 4 * room.old.top }
-    requires ready_one { ReadyOne base.names.now (base.words.now ++ work.old) room.old.top room.old.left end.hi end.k x y }
-    ensures { GivesTwo base.entry.names.now (base.entry.words.now ++ work.old) (base.entry.words.now ++ work.new) room.old.top room.old.left
-        (apply_two (sub_at base.entry.names.now (base.entry.words.now ++ work.old) (end.hi - 2 * end.k) end.k) (tree base.entry.names.now (base.entry.words.now ++ work.old) x) (tree base.entry.names.now (base.entry.words.now ++ work.old) y) room.old.left) (two_of result room.new.top room.new.left) }
+    requires base_len_bound { length base.now.words.now ≤ 4 * room.old.top }
+    requires ready_one { ReadyOne base.now.names.now (base.now.words.now ++ work.old) room.old.top room.old.left end.hi end.k x y }
+    ensures { GivesTwo base.now.names.now (base.now.words.now ++ work.old) (base.now.words.now ++ work.new) room.old.top room.old.left
+        (apply_two (sub_at base.now.names.now (base.now.words.now ++ work.old) (end.hi - 2 * end.k) end.k) (tree base.now.names.now (base.now.words.now ++ work.old) x) (tree base.now.names.now (base.now.words.now ++ work.old) y) room.old.left) (two_of result room.new.top room.new.left) }
 {
     let sub = Subst {
         at: end.hi - 2 * end.k,
@@ -51,16 +51,16 @@ fn both(
 
 // The k2 pairs just below the pairs, composed with these.
 fn join(
-    base: Base,
+    base: &Base,
     work: &mut [u64],
     room: &mut Room,
     k2: usize,
     end: Ending,
 ) -> Result<usize, Refusal>
-    requires base_len_bound { length base.words.now ≤ 4 * room.old.top }
-    requires ready_join { ReadyJoin base.names.now (base.words.now ++ work.old) room.old.top room.old.left end.hi k2 end.k }
-    ensures { GivesU 0 (2 * k2 + 2 * end.k) base.entry.names.now (base.entry.words.now ++ work.old) (base.entry.words.now ++ work.new) room.old.top room.old.left end.hi
-        (S.compose (sub_at base.entry.names.now (base.entry.words.now ++ work.old) (end.hi - 2 * end.k - 2 * k2) k2) (sub_at base.entry.names.now (base.entry.words.now ++ work.old) (end.hi - 2 * end.k) end.k) room.old.left) (applied_of result room.new.top room.new.left) }
+    requires base_len_bound { length base.now.words.now ≤ 4 * room.old.top }
+    requires ready_join { ReadyJoin base.now.names.now (base.now.words.now ++ work.old) room.old.top room.old.left end.hi k2 end.k }
+    ensures { GivesU 0 (2 * k2 + 2 * end.k) base.now.names.now (base.now.words.now ++ work.old) (base.now.words.now ++ work.new) room.old.top room.old.left end.hi
+        (S.compose (sub_at base.now.names.now (base.now.words.now ++ work.old) (end.hi - 2 * end.k - 2 * k2) k2) (sub_at base.now.names.now (base.now.words.now ++ work.old) (end.hi - 2 * end.k) end.k) room.old.left) (applied_of result room.new.top room.new.left) }
 {
     let lo = end.hi - 2 * end.k - 2 * k2;
     compose::compose_in(base, work, room, Beside { lo, k2, k1: end.k })
@@ -69,7 +69,7 @@ fn join(
 // The types x and y unified, after the pairs.
 #[cycle(one_unify_unify_arrow_unify_con_unify_zip)]
 fn one(
-    base: Base,
+    base: &Base,
     work: &mut [u64],
     room: &mut Room,
     depth: usize,
@@ -77,10 +77,10 @@ fn one(
     x: usize,
     y: usize,
 ) -> Result<usize, Refusal>
-    requires base_len_bound { length base.words.now ≤ 4 * room.old.top }
-    requires ready_one { ReadyOne base.names.now (base.words.now ++ work.old) room.old.top room.old.left end.hi end.k x y }
-    ensures { GivesU 1 (2 * end.k) base.entry.names.now (base.entry.words.now ++ work.old) (base.entry.words.now ++ work.new) room.old.top room.old.left end.hi
-        (unify_one (λ a b. U.unify_in depth a b) (sub_at base.entry.names.now (base.entry.words.now ++ work.old) (end.hi - 2 * end.k) end.k) (tree base.entry.names.now (base.entry.words.now ++ work.old) x) (tree base.entry.names.now (base.entry.words.now ++ work.old) y) room.old.left) (applied_of result room.new.top room.new.left) }
+    requires base_len_bound { length base.now.words.now ≤ 4 * room.old.top }
+    requires ready_one { ReadyOne base.now.names.now (base.now.words.now ++ work.old) room.old.top room.old.left end.hi end.k x y }
+    ensures { GivesU 1 (2 * end.k) base.now.names.now (base.now.words.now ++ work.old) (base.now.words.now ++ work.new) room.old.top room.old.left end.hi
+        (unify_one (λ a b. U.unify_in depth a b) (sub_at base.now.names.now (base.now.words.now ++ work.old) (end.hi - 2 * end.k) end.k) (tree base.now.names.now (base.now.words.now ++ work.old) x) (tree base.now.names.now (base.now.words.now ++ work.old) y) room.old.left) (applied_of result room.new.top room.new.left) }
 {
     let p = both(base, work, room, end, x, y)?;
     let k2 = unify(base, work, room, depth, end.hi - 2 * end.k, p.left, p.right)?;
@@ -90,7 +90,7 @@ fn one(
 // `unify_zip`: the lists xs and ys unified, after the pairs.
 #[cycle(one_unify_unify_arrow_unify_con_unify_zip)]
 fn unify_zip(
-    base: Base,
+    base: &Base,
     work: &mut [u64],
     room: &mut Room,
     depth: usize,
@@ -98,10 +98,10 @@ fn unify_zip(
     xs: usize,
     ys: usize,
 ) -> Result<usize, Refusal>
-    requires base_len_bound { length base.words.now ≤ 4 * room.old.top }
-    requires ready_one { ReadyOne base.names.now (base.words.now ++ work.old) room.old.top room.old.left end.hi end.k xs ys }
-    ensures { GivesU 0 (2 * end.k) base.entry.names.now (base.entry.words.now ++ work.old) (base.entry.words.now ++ work.new) room.old.top room.old.left end.hi
-        (U.unify_zip (λ a b. U.unify_in depth a b) (list base.entry.names.now (base.entry.words.now ++ work.old) xs) (list base.entry.names.now (base.entry.words.now ++ work.old) ys) (sub_at base.entry.names.now (base.entry.words.now ++ work.old) (end.hi - 2 * end.k) end.k) room.old.left) (applied_of result room.new.top room.new.left) }
+    requires base_len_bound { length base.now.words.now ≤ 4 * room.old.top }
+    requires ready_one { ReadyOne base.now.names.now (base.now.words.now ++ work.old) room.old.top room.old.left end.hi end.k xs ys }
+    ensures { GivesU 0 (2 * end.k) base.now.names.now (base.now.words.now ++ work.old) (base.now.words.now ++ work.new) room.old.top room.old.left end.hi
+        (U.unify_zip (λ a b. U.unify_in depth a b) (list base.now.names.now (base.now.words.now ++ work.old) xs) (list base.now.names.now (base.now.words.now ++ work.old) ys) (sub_at base.now.names.now (base.now.words.now ++ work.old) (end.hi - 2 * end.k) end.k) room.old.left) (applied_of result room.new.top room.new.left) }
 {
     let p = ast::cell_at(base, work, xs);
     let q = ast::cell_at(base, work, ys);
@@ -128,7 +128,7 @@ fn unify_zip(
 // Two constructors: the names, then the numbers of arguments, then the arguments.
 #[cycle(one_unify_unify_arrow_unify_con_unify_zip)]
 fn unify_con(
-    base: Base,
+    base: &Base,
     work: &mut [u64],
     room: &mut Room,
     depth: usize,
@@ -138,10 +138,10 @@ fn unify_con(
     d: usize,
     ys: usize,
 ) -> Result<usize, Refusal>
-    requires base_len_bound { length base.words.now ≤ 4 * room.old.top }
-    requires ready_u { ReadyU base.names.now (base.words.now ++ work.old) room.old.top room.old.left sp xs ys }
-    ensures { GivesU 0 0 base.entry.names.now (base.entry.words.now ++ work.old) (base.entry.words.now ++ work.new) room.old.top room.old.left sp
-        (U.unify_con (λ a b. U.unify_in depth a b) (name_of base.entry.names.now c) (list base.entry.names.now (base.entry.words.now ++ work.old) xs) (name_of base.entry.names.now d) (list base.entry.names.now (base.entry.words.now ++ work.old) ys) room.old.left) (applied_of result room.new.top room.new.left) }
+    requires base_len_bound { length base.now.words.now ≤ 4 * room.old.top }
+    requires ready_u { ReadyU base.now.names.now (base.now.words.now ++ work.old) room.old.top room.old.left sp xs ys }
+    ensures { GivesU 0 0 base.now.names.now (base.now.words.now ++ work.old) (base.now.words.now ++ work.new) room.old.top room.old.left sp
+        (U.unify_con (λ a b. U.unify_in depth a b) (name_of base.now.names.now c) (list base.now.names.now (base.now.words.now ++ work.old) xs) (name_of base.now.names.now d) (list base.now.names.now (base.now.words.now ++ work.old) ys) room.old.left) (applied_of result room.new.top room.new.left) }
 {
     if c != d {
         return Err(Refusal::ConMismatch(c, d));
@@ -157,7 +157,7 @@ fn unify_con(
 // Two arrows: the left sides as they are, the right sides after what those gave.
 #[cycle(one_unify_unify_arrow_unify_con_unify_zip)]
 fn unify_arrow(
-    base: Base,
+    base: &Base,
     work: &mut [u64],
     room: &mut Room,
     depth: usize,
@@ -167,10 +167,10 @@ fn unify_arrow(
     c: usize,
     d: usize,
 ) -> Result<usize, Refusal>
-    requires base_len_bound { length base.words.now ≤ 4 * room.old.top }
-    requires ready_arrow { ReadyArrow base.names.now (base.words.now ++ work.old) room.old.top room.old.left sp a b c d }
-    ensures { GivesU 0 0 base.entry.names.now (base.entry.words.now ++ work.old) (base.entry.words.now ++ work.new) room.old.top room.old.left sp
-        (U.unify_arrow (λ x y. U.unify_in depth x y) (tree base.entry.names.now (base.entry.words.now ++ work.old) a) (tree base.entry.names.now (base.entry.words.now ++ work.old) b) (tree base.entry.names.now (base.entry.words.now ++ work.old) c) (tree base.entry.names.now (base.entry.words.now ++ work.old) d) room.old.left) (applied_of result room.new.top room.new.left) }
+    requires base_len_bound { length base.now.words.now ≤ 4 * room.old.top }
+    requires ready_arrow { ReadyArrow base.now.names.now (base.now.words.now ++ work.old) room.old.top room.old.left sp a b c d }
+    ensures { GivesU 0 0 base.now.names.now (base.now.words.now ++ work.old) (base.now.words.now ++ work.new) room.old.top room.old.left sp
+        (U.unify_arrow (λ x y. U.unify_in depth x y) (tree base.now.names.now (base.now.words.now ++ work.old) a) (tree base.now.names.now (base.now.words.now ++ work.old) b) (tree base.now.names.now (base.now.words.now ++ work.old) c) (tree base.now.names.now (base.now.words.now ++ work.old) d) room.old.left) (applied_of result room.new.top room.new.left) }
 {
     let k = unify(base, work, room, depth, sp, a, c)?;
     one(base, work, room, depth, Ending { hi: sp, k }, b, d)
@@ -179,7 +179,7 @@ fn unify_arrow(
 // `unify`: the most general unifier of the types s and t, as pairs that end at sp, where the stack ends.
 #[cycle(one_unify_unify_arrow_unify_con_unify_zip)]
 pub fn unify(
-    base: Base,
+    base: &Base,
     work: &mut [u64],
     room: &mut Room,
     depth: usize,
@@ -187,10 +187,10 @@ pub fn unify(
     s: usize,
     t: usize,
 ) -> Result<usize, Refusal>
-    requires base_len_bound { length base.words.now ≤ 4 * room.old.top }
-    requires ready_u { ReadyU base.names.now (base.words.now ++ work.old) room.old.top room.old.left sp s t }
-    ensures { GivesU 1 0 base.entry.names.now (base.entry.words.now ++ work.old) (base.entry.words.now ++ work.new) room.old.top room.old.left sp
-        (U.unify_in depth (tree base.entry.names.now (base.entry.words.now ++ work.old) s) (tree base.entry.names.now (base.entry.words.now ++ work.old) t) room.old.left) (applied_of result room.new.top room.new.left) }
+    requires base_len_bound { length base.now.words.now ≤ 4 * room.old.top }
+    requires ready_u { ReadyU base.now.names.now (base.now.words.now ++ work.old) room.old.top room.old.left sp s t }
+    ensures { GivesU 1 0 base.now.names.now (base.now.words.now ++ work.old) (base.now.words.now ++ work.new) room.old.top room.old.left sp
+        (U.unify_in depth (tree base.now.names.now (base.now.words.now ++ work.old) s) (tree base.now.names.now (base.now.words.now ++ work.old) t) room.old.left) (applied_of result room.new.top room.new.left) }
 {
     if depth == 0 {
         return Err(Refusal::Depth);

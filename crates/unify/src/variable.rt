@@ -12,17 +12,17 @@ use errors::Refusal;
 
 // `bind` of a variable to a type that is another one.
 fn bind_other(
-    base: Base,
+    base: &Base,
     work: &mut [u64],
     room: &mut Room,
     sp: usize,
     v: usize,
     t: usize,
 ) -> Result<usize, Refusal>
-    requires base_len_bound { length base.words.now ≤ 4 * room.old.top }
-    requires binds { Binds base.names.now (base.words.now ++ work.old) room.old.top room.old.left sp t }
-    ensures { GivesU 0 2 base.entry.names.now (base.entry.words.now ++ work.old) (base.entry.words.now ++ work.new) room.old.top room.old.left sp
-        (U.bind_other (tyvar_of base.entry.names.now v) (tree base.entry.names.now (base.entry.words.now ++ work.old) t) room.old.left) (applied_of result room.new.top room.new.left) }
+    requires base_len_bound { length base.now.words.now ≤ 4 * room.old.top }
+    requires binds { Binds base.now.names.now (base.now.words.now ++ work.old) room.old.top room.old.left sp t }
+    ensures { GivesU 0 2 base.now.names.now (base.now.words.now ++ work.old) (base.now.words.now ++ work.new) room.old.top room.old.left sp
+        (U.bind_other (tyvar_of base.now.names.now v) (tree base.now.names.now (base.now.words.now ++ work.old) t) room.old.left) (applied_of result room.new.top room.new.left) }
 {
     if ast::occurs_in(base, work, room.top, v, t) {
         return Err(Refusal::OccursCheck(v, t));
@@ -34,17 +34,17 @@ fn bind_other(
 
 // `bind`: a variable against itself needs nothing.
 pub fn bind(
-    base: Base,
+    base: &Base,
     work: &mut [u64],
     room: &mut Room,
     sp: usize,
     v: usize,
     t: usize,
 ) -> Result<usize, Refusal>
-    requires base_len_bound { length base.words.now ≤ 4 * room.old.top }
-    requires binds { Binds base.names.now (base.words.now ++ work.old) room.old.top room.old.left sp t }
-    ensures { GivesU 0 2 base.entry.names.now (base.entry.words.now ++ work.old) (base.entry.words.now ++ work.new) room.old.top room.old.left sp
-        (U.bind (tyvar_of base.entry.names.now v) (tree base.entry.names.now (base.entry.words.now ++ work.old) t) room.old.left) (applied_of result room.new.top room.new.left) }
+    requires base_len_bound { length base.now.words.now ≤ 4 * room.old.top }
+    requires binds { Binds base.now.names.now (base.now.words.now ++ work.old) room.old.top room.old.left sp t }
+    ensures { GivesU 0 2 base.now.names.now (base.now.words.now ++ work.old) (base.now.words.now ++ work.new) room.old.top room.old.left sp
+        (U.bind (tyvar_of base.now.names.now v) (tree base.now.names.now (base.now.words.now ++ work.old) t) room.old.left) (applied_of result room.new.top room.new.left) }
 {
     let s = ast::shape_at(base, work, t);
     match s {

@@ -11,10 +11,10 @@ ghost use Rattle.vars.specs.Vars.{vars_of_word, all_in};
 use ast::{Base, Cell, Shape};
 
 // Whether the variable of word x is one of the list vs.
-pub fn has_var(base: Base, work: &[u64], top: usize, vs: usize, x: usize) -> bool
-    requires names { Names base.names.now }
-    requires node { Node (base.words.now ++ work.now) top vs }
-    ensures { result ≡ elem tyvars (tyvar_of base.entry.names.now x) (vars_of_word base.entry.names.now (base.entry.words.now ++ work.now) vs) }
+pub fn has_var(base: &Base, work: &[u64], top: usize, vs: usize, x: usize) -> bool
+    requires names { Names base.now.names.now }
+    requires node { Node (base.now.words.now ++ work.now) top vs }
+    ensures { result ≡ elem tyvars (tyvar_of base.now.names.now x) (vars_of_word base.now.names.now (base.now.words.now ++ work.now) vs) }
 {
     // No heap: the list is cells of the table, which no iterator walks.
     let mut l = vs;
@@ -36,11 +36,11 @@ pub fn has_var(base: Base, work: &[u64], top: usize, vs: usize, x: usize) -> boo
 
 // Whether each variable of the type t is one of the list vs. A shared node is walked once for each place where it stands.
 #[cycle(all_bound_all_bound_list)]
-pub fn all_bound(base: Base, work: &[u64], top: usize, vs: usize, t: usize) -> bool
-    requires names { Names base.names.now }
-    requires node { Node (base.words.now ++ work.now) top vs }
-    requires node_2 { Node (base.words.now ++ work.now) top t }
-    ensures { result ≡ all_in (ftv_type (tree base.entry.names.now (base.entry.words.now ++ work.now) t) []) (vars_of_word base.entry.names.now (base.entry.words.now ++ work.now) vs) }
+pub fn all_bound(base: &Base, work: &[u64], top: usize, vs: usize, t: usize) -> bool
+    requires names { Names base.now.names.now }
+    requires node { Node (base.now.words.now ++ work.now) top vs }
+    requires node_2 { Node (base.now.words.now ++ work.now) top t }
+    ensures { result ≡ all_in (ftv_type (tree base.now.names.now (base.now.words.now ++ work.now) t) []) (vars_of_word base.now.names.now (base.now.words.now ++ work.now) vs) }
 {
     let s = ast::shape_at(base, work, t);
     match s {
@@ -57,11 +57,11 @@ pub fn all_bound(base: Base, work: &[u64], top: usize, vs: usize, t: usize) -> b
 
 // Whether each variable of a type of the list l is one of the list vs.
 #[cycle(all_bound_all_bound_list)]
-pub fn all_bound_list(base: Base, work: &[u64], top: usize, vs: usize, l: usize) -> bool
-    requires names { Names base.names.now }
-    requires node { Node (base.words.now ++ work.now) top vs }
-    requires node_2 { Node (base.words.now ++ work.now) top l }
-    ensures { result ≡ all_in (ftv_types (list base.entry.names.now (base.entry.words.now ++ work.now) l) []) (vars_of_word base.entry.names.now (base.entry.words.now ++ work.now) vs) }
+pub fn all_bound_list(base: &Base, work: &[u64], top: usize, vs: usize, l: usize) -> bool
+    requires names { Names base.now.names.now }
+    requires node { Node (base.now.words.now ++ work.now) top vs }
+    requires node_2 { Node (base.now.words.now ++ work.now) top l }
+    ensures { result ≡ all_in (ftv_types (list base.now.names.now (base.now.words.now ++ work.now) l) []) (vars_of_word base.now.names.now (base.now.words.now ++ work.now) vs) }
 {
     let c = ast::cell_at(base, work, l);
     match c {

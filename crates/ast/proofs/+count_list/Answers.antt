@@ -8,7 +8,7 @@ pub count_list-requires : goal.count_list-requires
 count_list-requires t c = let k = cons_tail c.requires c.cell_at-c.ensures c.in-Cons.is in (omega arith, k.1)
 
 pub overflow_add-result : goal.overflow_add-result
-overflow_add-result t c = let z = (c.count_list.ensures c.args.base.words.now).most in let k = (cons_tail c.requires c.cell_at-c.ensures c.in-Cons.is).0 in let s = c.requires.table.small in let b = c.requires.below in omega arith
+overflow_add-result t c = let z = (c.count_list.ensures c.args.base.now.words.now).most in let k = (cons_tail c.requires c.cell_at-c.ensures c.in-Cons.is).0 in let s = c.requires.table.small in let b = c.requires.below in omega arith
 
 pub returns-in-Nil : goal.returns-in-Nil
 returns-in-Nil t c = counts_none c.requires c.cell_at-c.ensures c.in-Nil.is

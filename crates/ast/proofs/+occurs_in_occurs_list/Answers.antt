@@ -13,7 +13,7 @@ occurs_in-occurs_in-requires t c = let k = arrow_left c.requires.node c.shape_at
 
 pub occurs_in-returns-then-occurs_in : goal.occurs_in-returns-then-occurs_in
 unfolding occurs
-occurs_in-returns-then-occurs_in t c = rw (tree_arrow c.args.base.names.now c.requires.node c.shape_at-s.ensures c.in-Arrow.is, ← c.occurs_in.ensures, c.if-occurs_in.true)
+occurs_in-returns-then-occurs_in t c = rw (tree_arrow c.args.base.now.names.now c.requires.node c.shape_at-s.ensures c.in-Arrow.is, ← c.occurs_in.ensures, c.if-occurs_in.true)
 
 pub occurs_in-occurs_in-requires-in-Arrow : goal.occurs_in-occurs_in-requires-in-Arrow
 occurs_in-occurs_in-requires-in-Arrow t c = let k = arrow_right c.requires.node c.shape_at-s.ensures c.in-Arrow.is in (omega arith, (c.requires.names, k.1))
@@ -23,26 +23,26 @@ occurs_in-returns-in-Var t c = occurs_var _ c.requires.names c.requires.node c.s
 
 pub occurs_in-returns-in-Con : goal.occurs_in-returns-in-Con
 unfolding occurs
-occurs_in-returns-in-Con t c = rw (tree_con c.args.base.names.now c.requires.node c.shape_at-s.ensures c.in-Con.is) c.occurs_list.ensures
+occurs_in-returns-in-Con t c = rw (tree_con c.args.base.now.names.now c.requires.node c.shape_at-s.ensures c.in-Con.is) c.occurs_list.ensures
 
 pub occurs_in-returns-else-occurs_in : goal.occurs_in-returns-else-occurs_in
 unfolding occurs
-occurs_in-returns-else-occurs_in t c = rw (tree_arrow c.args.base.names.now c.requires.node c.shape_at-s.ensures c.in-Arrow.is, ← c.occurs_in.ensures, c.if-occurs_in.false) c.occurs_in-in-Arrow.ensures
+occurs_in-returns-else-occurs_in t c = rw (tree_arrow c.args.base.now.names.now c.requires.node c.shape_at-s.ensures c.in-Arrow.is, ← c.occurs_in.ensures, c.if-occurs_in.false) c.occurs_in-in-Arrow.ensures
 
 pub occurs_list-occurs_in-requires : goal.occurs_list-occurs_in-requires
 occurs_list-occurs_in-requires t c = let k = cons_head c.requires.node c.cell_at-s.ensures c.in-Cons.is in (omega arith, (c.requires.names, k.1))
 
 pub occurs_list-returns-then-occurs_in : goal.occurs_list-returns-then-occurs_in
 unfolding occurs
-occurs_list-returns-then-occurs_in t c = rw (list_cons c.args.base.names.now c.requires.node c.cell_at-s.ensures c.in-Cons.is, ← c.occurs_in.ensures, c.if-occurs_in.true)
+occurs_list-returns-then-occurs_in t c = rw (list_cons c.args.base.now.names.now c.requires.node c.cell_at-s.ensures c.in-Cons.is, ← c.occurs_in.ensures, c.if-occurs_in.true)
 
 pub occurs_list-occurs_list-requires : goal.occurs_list-occurs_list-requires
 occurs_list-occurs_list-requires t c = let k = cons_tail c.requires.node c.cell_at-s.ensures c.in-Cons.is in (omega arith, (c.requires.names, k.1))
 
 pub occurs_list-returns-in-Nil : goal.occurs_list-returns-in-Nil
 unfolding occurs
-occurs_list-returns-in-Nil t c = rw (list_nil c.args.base.names.now c.requires.node c.cell_at-s.ensures c.in-Nil.is)
+occurs_list-returns-in-Nil t c = rw (list_nil c.args.base.now.names.now c.requires.node c.cell_at-s.ensures c.in-Nil.is)
 
 pub occurs_list-returns-else-occurs_in : goal.occurs_list-returns-else-occurs_in
 unfolding occurs
-occurs_list-returns-else-occurs_in t c = rw (list_cons c.args.base.names.now c.requires.node c.cell_at-s.ensures c.in-Cons.is, ← c.occurs_in.ensures, c.if-occurs_in.false) c.occurs_list.ensures
+occurs_list-returns-else-occurs_in t c = rw (list_cons c.args.base.now.names.now c.requires.node c.cell_at-s.ensures c.in-Cons.is, ← c.occurs_in.ensures, c.if-occurs_in.false) c.occurs_list.ensures

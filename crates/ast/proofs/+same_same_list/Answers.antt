@@ -54,16 +54,16 @@ pub same_list-same_list-requires : goal.same_list-same_list-requires
 same_list-same_list-requires t c = let j = cons_tail c.requires.node c.cell_at-p.ensures c.in-Cons.is in let k = cons_tail c.requires.node_2 c.cell_at-q.ensures c.in-Cons-q-2.is in (omega arith, (c.requires.names, (j.1, k.1)))
 
 pub same_list-returns-then-same : goal.same_list-returns-then-same
-same_list-returns-then-same t c = head_same c.args.base.names.now c.requires.node c.requires.node_2 c.cell_at-p.ensures c.cell_at-q.ensures c.in-Cons.is c.in-Cons-q-2.is c.same_list.result (sym c.if-same.true ∙ c.same.ensures) c.same_list.ensures
+same_list-returns-then-same t c = head_same c.args.base.now.names.now c.requires.node c.requires.node_2 c.cell_at-p.ensures c.cell_at-q.ensures c.in-Cons.is c.in-Cons-q-2.is c.same_list.result (sym c.if-same.true ∙ c.same.ensures) c.same_list.ensures
 
 pub same_list-returns-in-Nil-q : goal.same_list-returns-in-Nil-q
-same_list-returns-in-Nil-q t c = both_nil c.args.base.names.now c.requires.node c.requires.node_2 c.cell_at-p.ensures c.cell_at-q.ensures c.in-Nil.is c.in-Nil-q.is
+same_list-returns-in-Nil-q t c = both_nil c.args.base.now.names.now c.requires.node c.requires.node_2 c.cell_at-p.ensures c.cell_at-q.ensures c.in-Nil.is c.in-Nil-q.is
 
 pub same_list-returns-in-Cons-q : goal.same_list-returns-in-Cons-q
-same_list-returns-in-Cons-q t c = nil_cons c.args.base.names.now c.requires.node c.requires.node_2 c.cell_at-p.ensures c.cell_at-q.ensures c.in-Nil.is c.in-Cons-q.is
+same_list-returns-in-Cons-q t c = nil_cons c.args.base.now.names.now c.requires.node c.requires.node_2 c.cell_at-p.ensures c.cell_at-q.ensures c.in-Nil.is c.in-Cons-q.is
 
 pub same_list-returns-in-Nil-q-2 : goal.same_list-returns-in-Nil-q-2
-same_list-returns-in-Nil-q-2 t c = cons_nil c.args.base.names.now c.requires.node c.requires.node_2 c.cell_at-p.ensures c.cell_at-q.ensures c.in-Cons.is c.in-Nil-q-2.is
+same_list-returns-in-Nil-q-2 t c = cons_nil c.args.base.now.names.now c.requires.node c.requires.node_2 c.cell_at-p.ensures c.cell_at-q.ensures c.in-Cons.is c.in-Nil-q-2.is
 
 pub same_list-returns-else-same : goal.same_list-returns-else-same
-same_list-returns-else-same t c = head_differs c.args.base.names.now c.requires.node c.requires.node_2 c.cell_at-p.ensures c.cell_at-q.ensures c.in-Cons.is c.in-Cons-q-2.is (sym c.if-same.false ∙ c.same.ensures)
+same_list-returns-else-same t c = head_differs c.args.base.now.names.now c.requires.node c.requires.node_2 c.cell_at-p.ensures c.cell_at-q.ensures c.in-Cons.is c.in-Cons-q-2.is (sym c.if-same.false ∙ c.same.ensures)

@@ -11,13 +11,13 @@ use Rattle.canoncore.proofs.ListWays.{each_nil, first_asks, list_refused, rest_a
 use Rattle.canoncore.proofs.+in_abs_in_call_in_dict_abs_in_dict_app_in_let_in_method_in_super_in_each_rename_core.Goals as goal
 
 pub in_abs-returns : goal.in_abs-returns
-in_abs-returns t c = rw (c.push_abs.ensures.word, c.push_abs.ensures.top, c.push_abs.ensures.left) (abs_done _ c.requires.ready_letters c.rename_core.ensures (ok_is c.in_ok-m.was) (long c.args.base.words.now c.rename_core.new.work c.args.work.now c.rename_core.auto.work) (both_fit c.args.base.words.now c.args.work.now c.well_formed.0.1.1.0.0.1.0 c.well_formed.1.0.0) _ c.push_abs.ensures.is)
+in_abs-returns t c = rw (c.push_abs.ensures.word, c.push_abs.ensures.top, c.push_abs.ensures.left) (abs_done _ c.requires.ready_letters c.rename_core.ensures (ok_is c.in_ok-m.was) (long c.args.base.now.words.now c.rename_core.new.work c.args.work.now c.rename_core.auto.work) (both_fit c.args.base.now.words.now c.args.work.now (omega arith) c.well_formed.1.0.0) _ c.push_abs.ensures.is)
 
 pub in_abs-returns-in_err-m : goal.in_abs-returns-in_err-m
 in_abs-returns-in_err-m t c = rw (thrown _ c.from_residual.ensures.1) (abs_refused _ c.requires.ready_letters c.rename_core.ensures (err_is c.in_err-m.was) _)
 
 pub in_call-returns : goal.in_call-returns
-in_call-returns t c = rw (c.push_call.ensures.word, c.push_call.ensures.top, c.push_call.ensures.left) (call_done _ c.requires.ready_letters c.rename_core.ensures (ok_is c.in_ok-m.was) c.requires.node c.rename_core-2.ensures (ok_is c.in_ok-m2.was) (long c.args.base.words.now c.rename_core-2.new.work c.args.work.now (c.rename_core-2.auto.work ∙ c.rename_core.auto.work)) (both_fit c.args.base.words.now c.args.work.now c.well_formed.0.1.1.0.0.1.0 c.well_formed.1.0.0) c.push_call.ensures.is)
+in_call-returns t c = rw (c.push_call.ensures.word, c.push_call.ensures.top, c.push_call.ensures.left) (call_done _ c.requires.ready_letters c.rename_core.ensures (ok_is c.in_ok-m.was) c.requires.node c.rename_core-2.ensures (ok_is c.in_ok-m2.was) (long c.args.base.now.words.now c.rename_core-2.new.work c.args.work.now (c.rename_core-2.auto.work ∙ c.rename_core.auto.work)) (both_fit c.args.base.now.words.now c.args.work.now (omega arith) c.well_formed.1.0.0) c.push_call.ensures.is)
 
 pub in_call-returns-in_err-m2 : goal.in_call-returns-in_err-m2
 in_call-returns-in_err-m2 t c = rw (thrown _ c.from_residual-in_err-m2.ensures.1) (call_refused_2 _ c.requires.ready_letters c.rename_core.ensures (ok_is c.in_ok-m.was) c.requires.node c.rename_core-2.ensures (err_is c.in_err-m2.was))
@@ -26,7 +26,7 @@ pub in_call-returns-in_err-m : goal.in_call-returns-in_err-m
 in_call-returns-in_err-m t c = rw (thrown _ c.from_residual.ensures.1) (call_refused _ c.requires.ready_letters c.rename_core.ensures (err_is c.in_err-m.was) _)
 
 pub in_dict_abs-returns : goal.in_dict_abs-returns
-in_dict_abs-returns t c = rw (c.push_dict_abs.ensures.word, c.push_dict_abs.ensures.top, c.push_dict_abs.ensures.left) (under_done _ _ c.requires.ready_letters.room c.rename_binders.ensures c.requires.node (ok_is c.in_ok-m.was) c.rename_core.ensures (ok_is c.in_ok-m2.was) (long c.args.base.words.now c.rename_core.new.work c.args.work.now (c.rename_core.auto.work ∙ c.rename_binders.auto.work)) (both_fit c.args.base.words.now c.args.work.now c.well_formed.0.1.1.0.0.1.0 c.well_formed.1.0.0) c.push_dict_abs.ensures.is)
+in_dict_abs-returns t c = rw (c.push_dict_abs.ensures.word, c.push_dict_abs.ensures.top, c.push_dict_abs.ensures.left) (under_done _ _ c.requires.ready_letters.room c.rename_binders.ensures c.requires.node (ok_is c.in_ok-m.was) c.rename_core.ensures (ok_is c.in_ok-m2.was) (long c.args.base.now.words.now c.rename_core.new.work c.args.work.now (c.rename_core.auto.work ∙ c.rename_binders.auto.work)) (both_fit c.args.base.now.words.now c.args.work.now (omega arith) c.well_formed.1.0.0) c.push_dict_abs.ensures.is)
 
 pub in_dict_abs-returns-in_err-m2 : goal.in_dict_abs-returns-in_err-m2
 in_dict_abs-returns-in_err-m2 t c = rw (thrown _ c.from_residual-in_err-m2.ensures.1) (under_refused_2 _ _ c.requires.ready_letters.room c.rename_binders.ensures c.requires.node (ok_is c.in_ok-m.was) c.rename_core.ensures (err_is c.in_err-m2.was))
@@ -35,7 +35,7 @@ pub in_dict_abs-returns-in_err-m : goal.in_dict_abs-returns-in_err-m
 in_dict_abs-returns-in_err-m t c = rw (thrown _ c.from_residual.ensures.1) (under_refused _ _ c.requires.ready_letters.room c.rename_binders.ensures c.requires.node (err_is c.in_err-m.was))
 
 pub in_dict_app-returns : goal.in_dict_app-returns
-in_dict_app-returns t c = rw (c.push_app.ensures.word, c.push_app.ensures.top, c.push_app.ensures.left) (applied_done _ c.requires.ready_letters c.rename_core.ensures (ok_is c.in_ok-m.was) c.requires.node c.in_each.ensures (ok_is c.in_ok-m2.was) (long c.args.base.words.now c.in_each.new.work c.args.work.now (c.in_each.auto.work ∙ c.rename_core.auto.work)) (both_fit c.args.base.words.now c.args.work.now c.well_formed.0.1.1.0.0.1.0 c.well_formed.1.0.0) c.push_app.ensures.is)
+in_dict_app-returns t c = rw (c.push_app.ensures.word, c.push_app.ensures.top, c.push_app.ensures.left) (applied_done _ c.requires.ready_letters c.rename_core.ensures (ok_is c.in_ok-m.was) c.requires.node c.in_each.ensures (ok_is c.in_ok-m2.was) (long c.args.base.now.words.now c.in_each.new.work c.args.work.now (c.in_each.auto.work ∙ c.rename_core.auto.work)) (both_fit c.args.base.now.words.now c.args.work.now (omega arith) c.well_formed.1.0.0) c.push_app.ensures.is)
 
 pub in_dict_app-returns-in_err-m2 : goal.in_dict_app-returns-in_err-m2
 in_dict_app-returns-in_err-m2 t c = rw (thrown _ c.from_residual-in_err-m2.ensures.1) (applied_refused_2 _ c.requires.ready_letters c.rename_core.ensures (ok_is c.in_ok-m.was) c.requires.node c.in_each.ensures (err_is c.in_err-m2.was))
@@ -44,7 +44,7 @@ pub in_dict_app-returns-in_err-m : goal.in_dict_app-returns-in_err-m
 in_dict_app-returns-in_err-m t c = rw (thrown _ c.from_residual.ensures.1) (applied_refused _ c.requires.ready_letters c.rename_core.ensures (err_is c.in_err-m.was) _)
 
 pub in_let-returns : goal.in_let-returns
-in_let-returns t c = rw (c.push_let.ensures.word, c.push_let.ensures.top, c.push_let.ensures.left) (let_done _ c.requires.ready_letters c.rename_core.ensures (ok_is c.in_ok-m.was) c.requires.node c.rename_core-2.ensures (ok_is c.in_ok-m2.was) (long c.args.base.words.now c.rename_core-2.new.work c.args.work.now (c.rename_core-2.auto.work ∙ c.rename_core.auto.work)) (both_fit c.args.base.words.now c.args.work.now c.well_formed.0.1.1.0.0.1.0 c.well_formed.1.0.0) _ c.push_let.ensures.is)
+in_let-returns t c = rw (c.push_let.ensures.word, c.push_let.ensures.top, c.push_let.ensures.left) (let_done _ c.requires.ready_letters c.rename_core.ensures (ok_is c.in_ok-m.was) c.requires.node c.rename_core-2.ensures (ok_is c.in_ok-m2.was) (long c.args.base.now.words.now c.rename_core-2.new.work c.args.work.now (c.rename_core-2.auto.work ∙ c.rename_core.auto.work)) (both_fit c.args.base.now.words.now c.args.work.now (omega arith) c.well_formed.1.0.0) _ c.push_let.ensures.is)
 
 pub in_let-returns-in_err-m2 : goal.in_let-returns-in_err-m2
 in_let-returns-in_err-m2 t c = rw (thrown _ c.from_residual-in_err-m2.ensures.1) (let_refused_2 _ c.requires.ready_letters c.rename_core.ensures (ok_is c.in_ok-m.was) c.requires.node c.rename_core-2.ensures (err_is c.in_err-m2.was) _)
@@ -53,13 +53,13 @@ pub in_let-returns-in_err-m : goal.in_let-returns-in_err-m
 in_let-returns-in_err-m t c = rw (thrown _ c.from_residual.ensures.1) (let_refused _ c.requires.ready_letters c.rename_core.ensures (err_is c.in_err-m.was) _ _)
 
 pub in_method-returns : goal.in_method-returns
-in_method-returns t c = rw (c.push_method.ensures.word, c.push_method.ensures.top, c.push_method.ensures.left) (method_done _ c.requires.ready_letters c.rename_core.ensures (ok_is c.in_ok-m.was) (long c.args.base.words.now c.rename_core.new.work c.args.work.now c.rename_core.auto.work) (both_fit c.args.base.words.now c.args.work.now c.well_formed.0.1.1.0.0.1.0 c.well_formed.1.0.0) _ c.push_method.ensures.is)
+in_method-returns t c = rw (c.push_method.ensures.word, c.push_method.ensures.top, c.push_method.ensures.left) (method_done _ c.requires.ready_letters c.rename_core.ensures (ok_is c.in_ok-m.was) (long c.args.base.now.words.now c.rename_core.new.work c.args.work.now c.rename_core.auto.work) (both_fit c.args.base.now.words.now c.args.work.now (omega arith) c.well_formed.1.0.0) _ c.push_method.ensures.is)
 
 pub in_method-returns-in_err-m : goal.in_method-returns-in_err-m
 in_method-returns-in_err-m t c = rw (thrown _ c.from_residual.ensures.1) (method_refused _ c.requires.ready_letters c.rename_core.ensures (err_is c.in_err-m.was) _)
 
 pub in_super-returns : goal.in_super-returns
-in_super-returns t c = rw (c.push_proj.ensures.word, c.push_proj.ensures.top, c.push_proj.ensures.left) (super_done _ c.requires.ready_letters c.rename_core.ensures (ok_is c.in_ok-m.was) (long c.args.base.words.now c.rename_core.new.work c.args.work.now c.rename_core.auto.work) (both_fit c.args.base.words.now c.args.work.now c.well_formed.0.1.1.0.0.1.0 c.well_formed.1.0.0) _ _ c.push_proj.ensures.is)
+in_super-returns t c = rw (c.push_proj.ensures.word, c.push_proj.ensures.top, c.push_proj.ensures.left) (super_done _ c.requires.ready_letters c.rename_core.ensures (ok_is c.in_ok-m.was) (long c.args.base.now.words.now c.rename_core.new.work c.args.work.now c.rename_core.auto.work) (both_fit c.args.base.now.words.now c.args.work.now (omega arith) c.well_formed.1.0.0) _ _ c.push_proj.ensures.is)
 
 pub in_super-returns-in_err-m : goal.in_super-returns-in_err-m
 in_super-returns-in_err-m t c = rw (thrown _ c.from_residual.ensures.1) (super_refused _ c.requires.ready_letters c.rename_core.ensures (err_is c.in_err-m.was) _ _)
@@ -68,13 +68,13 @@ pub lists::in_each-rename_core-requires : goal.lists::in_each-rename_core-requir
 lists::in_each-rename_core-requires t c = (omega arith, (c.requires.base_len_bound, first_asks 0 c.requires.ready_letters c.cell_at-c.ensures c.in-Cons.is))
 
 pub lists::in_each-in_each-requires : goal.lists::in_each-in_each-requires
-lists::in_each-in_each-requires t c = let q = rest_asks _ c.requires.ready_letters c.cell_at-c.ensures c.in-Cons.is c.rename_core.ensures (ok_is c.in_ok-m-in-Cons.was) (long c.args.base.words.now c.rename_core.new.work c.args.work.now c.rename_core.auto.work) in let f = fewer (first_asks 0 c.requires.ready_letters c.cell_at-c.ensures c.in-Cons.is) c.rename_core.ensures (ok_is c.in_ok-m-in-Cons.was) (omega arith) in let m = q.0 in let cl = c.requires.base_len_bound in (omega arith, (omega arith, q.1))
+lists::in_each-in_each-requires t c = let q = rest_asks _ c.requires.ready_letters c.cell_at-c.ensures c.in-Cons.is c.rename_core.ensures (ok_is c.in_ok-m-in-Cons.was) (long c.args.base.now.words.now c.rename_core.new.work c.args.work.now c.rename_core.auto.work) in let f = fewer (first_asks 0 c.requires.ready_letters c.cell_at-c.ensures c.in-Cons.is) c.rename_core.ensures (ok_is c.in_ok-m-in-Cons.was) (omega arith) in let m = q.0 in let cl = c.requires.base_len_bound in (omega arith, (omega arith, q.1))
 
 pub lists::in_each-returns-in-Nil : goal.lists::in_each-returns-in-Nil
 lists::in_each-returns-in-Nil t c = each_nil _ c.requires.ready_letters c.cell_at-c.ensures c.in-Nil.is
 
 pub lists::in_each-returns-in_ok-m2-in-Cons : goal.lists::in_each-returns-in_ok-m2-in-Cons
-lists::in_each-returns-in_ok-m2-in-Cons t c = rw (c.add.ensures.word, c.add.ensures.top, c.add.ensures.left) (list_done _ c.requires.ready_letters c.cell_at-c.ensures c.in-Cons.is c.rename_core.ensures (ok_is c.in_ok-m-in-Cons.was) c.in_each.ensures (ok_is c.in_ok-m2-in-Cons.was) (long c.args.base.words.now c.in_each.new.work c.args.work.now (c.in_each.auto.work ∙ c.rename_core.auto.work)) (both_fit c.args.base.words.now c.args.work.now c.well_formed.0.1.1.0.0.1.0 c.well_formed.1.0.0) c.add.ensures.is)
+lists::in_each-returns-in_ok-m2-in-Cons t c = rw (c.add.ensures.word, c.add.ensures.top, c.add.ensures.left) (list_done _ c.requires.ready_letters c.cell_at-c.ensures c.in-Cons.is c.rename_core.ensures (ok_is c.in_ok-m-in-Cons.was) c.in_each.ensures (ok_is c.in_ok-m2-in-Cons.was) (long c.args.base.now.words.now c.in_each.new.work c.args.work.now (c.in_each.auto.work ∙ c.rename_core.auto.work)) (both_fit c.args.base.now.words.now c.args.work.now (omega arith) c.well_formed.1.0.0) c.add.ensures.is)
 
 pub lists::in_each-returns-in_err-m2-in-Cons : goal.lists::in_each-returns-in_err-m2-in-Cons
 lists::in_each-returns-in_err-m2-in-Cons t c = rw (thrown _ c.from_residual-in_err-m2-in-Cons.ensures.1) (list_refused_2 _ c.requires.ready_letters c.cell_at-c.ensures c.in-Cons.is c.rename_core.ensures (ok_is c.in_ok-m-in-Cons.was) c.in_each.ensures (err_is c.in_err-m2-in-Cons.was))

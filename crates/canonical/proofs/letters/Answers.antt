@@ -34,4 +34,4 @@ pub shape_of-out : goal.shape_of-out
 shape_of-out c = c.loop-k.invariant.1
 
 pub returns : goal.returns
-returns c = let l = c.loop-k-test.false in let m = c.loop-k.auto.k-end in let z : c.loop-k.k ≡ 26 = omega arith in rw z at (letters_full (c.args.base.words.now ++ c.args.work.now) c.requires.ready_rows.type.env.names c.loop-k.invariant.0 (omega arith))
+returns c = let l = c.loop-k-test.false in let m = c.loop-k.auto.k-end in let z : c.loop-k.k ≡ 26 = omega arith in rw z at (letters_full (c.args.base.now.words.now ++ c.args.work.now) c.requires.ready_rows.type.env.names c.loop-k.invariant.0 (omega arith))

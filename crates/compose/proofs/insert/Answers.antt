@@ -4,4 +4,4 @@ use Rattle.compose.proofs.Moved.{opened}
 use Rattle.compose.proofs.insert.Goals as goal
 
 pub returns : goal.returns
-returns c = opened _ c.place-j.ensures c.shift.ensures (long c.args.base.words.now c.shift.new.work c.args.work.now c.shift.auto.work) c.requires.k_in_bounds c.put.ensures c.put-2.ensures
+returns c = opened _ c.place-j.ensures c.shift.ensures (long c.args.base.now.words.now c.shift.new.work c.args.work.now c.shift.auto.work) c.requires.k_in_bounds c.put.ensures c.put-2.ensures

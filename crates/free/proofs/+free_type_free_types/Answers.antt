@@ -18,7 +18,7 @@ pub free_type-free_type-r-requires : goal.free_type-free_type-r-requires
 free_type-free_type-r-requires t c = let k = arrow_left c.requires.node_3 c.shape_at-s.ensures c.in-Arrow.is in (omega arith, (c.requires.base_len_bound, (c.requires.node, (c.requires.node_2, (k.1, first_wants (count_type _ _ _) (wants_as refl (at_arrow _ c.requires.node_3 c.shape_at-s.ensures _ _ c.in-Arrow.is) c.requires.wants))))))
 
 pub free_type-free_type-requires : goal.free_type-free_type-requires
-free_type-free_type-requires t c = let k = arrow_right c.requires.node_3 c.shape_at-s.ensures c.in-Arrow.is in let q = type_next c.requires.node k.1 c.free_type-r.ensures.collects (wants_as refl (at_arrow _ c.requires.node_3 c.shape_at-s.ensures _ _ c.in-Arrow.is) c.requires.wants) (long c.args.base.words.now c.free_type-r.new.work c.args.work.now c.free_type-r.auto.work) in let m = q.more in let cl = c.requires.base_len_bound in (omega arith, (omega arith, (q.vars, (q.out, (q.node, q.wants)))))
+free_type-free_type-requires t c = let k = arrow_right c.requires.node_3 c.shape_at-s.ensures c.in-Arrow.is in let q = type_next c.requires.node k.1 c.free_type-r.ensures.collects (wants_as refl (at_arrow _ c.requires.node_3 c.shape_at-s.ensures _ _ c.in-Arrow.is) c.requires.wants) (long c.args.base.now.words.now c.free_type-r.new.work c.args.work.now c.free_type-r.auto.work) in let m = q.more in let cl = c.requires.base_len_bound in (omega arith, (omega arith, (q.vars, (q.out, (q.node, q.wants)))))
 
 pub free_type-returns-in-Var-clause-collects : goal.free_type-returns-in-Var-clause-collects
 free_type-returns-in-Var-clause-collects t c = collects_as refl (sym (at_var _ c.requires.node_3 c.shape_at-s.ensures _ _ c.in-Var.is)) c.add_but.ensures.collects
@@ -33,7 +33,7 @@ pub free_types-free_type-r-requires : goal.free_types-free_type-r-requires
 free_types-free_type-r-requires t c = let k = cons_head c.requires.node_3 c.cell_at-c.ensures c.in-Cons.is in (omega arith, (c.requires.base_len_bound, (c.requires.node, (c.requires.node_2, (k.1, first_wants (count_types _ _ _) (wants_as refl (at_cons _ c.requires.node_3 c.cell_at-c.ensures _ _ c.in-Cons.is) c.requires.wants))))))
 
 pub free_types-free_types-requires : goal.free_types-free_types-requires
-free_types-free_types-requires t c = let k = cons_tail c.requires.node_3 c.cell_at-c.ensures c.in-Cons.is in let q = types_next c.requires.node k.1 c.free_type-r.ensures.collects (wants_as refl (at_cons _ c.requires.node_3 c.cell_at-c.ensures _ _ c.in-Cons.is) c.requires.wants) (long c.args.base.words.now c.free_type-r.new.work c.args.work.now c.free_type-r.auto.work) in let m = q.more in let cl = c.requires.base_len_bound in (omega arith, (omega arith, (q.vars, (q.out, (q.node, q.wants)))))
+free_types-free_types-requires t c = let k = cons_tail c.requires.node_3 c.cell_at-c.ensures c.in-Cons.is in let q = types_next c.requires.node k.1 c.free_type-r.ensures.collects (wants_as refl (at_cons _ c.requires.node_3 c.cell_at-c.ensures _ _ c.in-Cons.is) c.requires.wants) (long c.args.base.now.words.now c.free_type-r.new.work c.args.work.now c.free_type-r.auto.work) in let m = q.more in let cl = c.requires.base_len_bound in (omega arith, (omega arith, (q.vars, (q.out, (q.node, q.wants)))))
 
 pub free_types-returns-in-Nil-clause-collects : goal.free_types-returns-in-Nil-clause-collects
 free_types-returns-in-Nil-clause-collects t c = collects_same c.requires.node_2 (sym (at_nil _ c.requires.node_3 c.cell_at-c.ensures _ _ c.in-Nil.is))

@@ -11,7 +11,7 @@ pub settle-requires : goal.settle-requires
 settle-requires c = record { base_len_bound = c.requires.base_len_bound; ready_settle = c.requires.ready_generalize.settle }
 
 pub conclude_from-requires : goal.conclude_from-requires
-conclude_from-requires c = let x = c.requires.base_len_bound in let y = settle_more c.requires.ready_generalize c.settle.ensures (settled_is c.in_ok-r.was) in let z = y.1.1 in record { nd_le_n = y.0; n_in_bounds = y.1.0; base_len_bound = omega arith; ready_from = from_asked c.requires.ready_generalize c.settle.ensures (settled_is c.in_ok-r.was) (long c.args.base.words.now c.settle.new.work c.args.work.now c.settle.auto.work); node = from_term c.requires.ready_generalize c.settle.ensures (settled_is c.in_ok-r.was) }
+conclude_from-requires c = let x = c.requires.base_len_bound in let y = settle_more c.requires.ready_generalize c.settle.ensures (settled_is c.in_ok-r.was) in let z = y.1.1 in record { nd_le_n = y.0; n_in_bounds = y.1.0; base_len_bound = omega arith; ready_from = from_asked c.requires.ready_generalize c.settle.ensures (settled_is c.in_ok-r.was) (long c.args.base.now.words.now c.settle.new.work c.args.work.now c.settle.auto.work); node = from_term c.requires.ready_generalize c.settle.ensures (settled_is c.in_ok-r.was) }
 
 pub returns : goal.returns
 returns c = conclude_done c.requires.ready_generalize c.settle.ensures (settled_is c.in_ok-r.was) c.conclude_from.ensures c.conclude_from.auto.binders (named_is c.in_ok-q.was)

@@ -27,10 +27,10 @@ pub calls::app-infer-requires : goal.calls::app-infer-requires
 calls::app-infer-requires t c = (omega arith, (c.requires.base_len_bound, first_asks c.requires.ready_i))
 
 pub calls::app-app_arg-requires : goal.calls::app-app_arg-requires
-calls::app-app_arg-requires t c = let b = c.requires.base_len_bound in let m = app_more c.requires.ready_i c.args.depth c.args.x c.infer.ensures (ok_is c.in_ok-function.was) (long c.args.base.words.now c.infer.new.work c.args.work.now c.infer.auto.work) in (omega arith, (omega arith, app_asks c.requires.ready_i c.args.depth c.args.x c.infer.ensures (ok_is c.in_ok-function.was) (long c.args.base.words.now c.infer.new.work c.args.work.now c.infer.auto.work)))
+calls::app-app_arg-requires t c = let b = c.requires.base_len_bound in let m = app_more c.requires.ready_i c.args.depth c.args.x c.infer.ensures (ok_is c.in_ok-function.was) (long c.args.base.now.words.now c.infer.new.work c.args.work.now c.infer.auto.work) in (omega arith, (omega arith, app_asks c.requires.ready_i c.args.depth c.args.x c.infer.ensures (ok_is c.in_ok-function.was) (long c.args.base.now.words.now c.infer.new.work c.args.work.now c.infer.auto.work)))
 
 pub calls::app-returns : goal.calls::app-returns
-calls::app-returns t c = app_gives c.requires.ready_i c.args.depth c.args.x c.infer.ensures (ok_is c.in_ok-function.was) (long c.args.base.words.now c.infer.new.work c.args.work.now c.infer.auto.work) c.app_arg.ensures
+calls::app-returns t c = app_gives c.requires.ready_i c.args.depth c.args.x c.infer.ensures (ok_is c.in_ok-function.was) (long c.args.base.now.words.now c.infer.new.work c.args.work.now c.infer.auto.work) c.app_arg.ensures
 
 pub calls::app-returns-in_err-function : goal.calls::app-returns-in_err-function
 calls::app-returns-in_err-function t c = rw (thrown _ c.from_residual.ensures.1) (app_lost c.requires.ready_i c.args.depth c.args.x c.infer.ensures (err_is c.in_err-function.was))
@@ -45,13 +45,13 @@ pub calls::app_arg-apply_env-requires : goal.calls::app_arg-apply_env-requires
 calls::app_arg-apply_env-requires t c = record { base_len_bound = c.requires.base_len_bound; ready_env = arg_env c.requires.ready_arg }
 
 pub calls::app_arg-onward-requires : goal.calls::app_arg-onward-requires
-calls::app_arg-onward-requires t c = let b = c.requires.base_len_bound in let q = arg_asks c.requires.ready_arg c.args.file.src.now c.args.file.index.now c.args.rules.classes.now c.args.methods.now c.args.depth c.args.x c.apply_env.ensures (swept_is c.in_ok-apply_env.was) (long c.args.base.words.now c.apply_env.new.work c.args.work.now c.apply_env.auto.work) in let m = q.0 in (omega arith, (omega arith, (q.1.0, q.1.1)))
+calls::app_arg-onward-requires t c = let b = c.requires.base_len_bound in let q = arg_asks c.requires.ready_arg c.args.file.src.now c.args.file.index.now c.args.rules.classes.now c.args.methods.now c.args.depth c.args.x c.apply_env.ensures (swept_is c.in_ok-apply_env.was) (long c.args.base.now.words.now c.apply_env.new.work c.args.work.now c.apply_env.auto.work) in let m = q.0 in (omega arith, (omega arith, (q.1.0, q.1.1)))
 
 pub calls::app_arg-overflow_add-argument : goal.calls::app_arg-overflow_add-argument
-calls::app_arg-overflow_add-argument t c = let q = (second_more c.requires.ready_arg c.args.file.src.now c.args.file.index.now c.args.rules.classes.now c.args.methods.now c.args.depth c.args.x c.apply_env.ensures (swept_is c.in_ok-apply_env.was) (long c.args.base.words.now c.apply_env.new.work c.args.work.now c.apply_env.auto.work) c.onward.ensures (ok_is c.in_ok-argument.was) (long c.args.base.words.now c.onward.new.work c.apply_env.new.work c.onward.auto.work)).1 in let o = c.onward.ensures.wide in let g = c.well_formed.1.1.1.1.1.1.1.1.1.1.0.0 in omega arith
+calls::app_arg-overflow_add-argument t c = let q = (second_more c.requires.ready_arg c.args.file.src.now c.args.file.index.now c.args.rules.classes.now c.args.methods.now c.args.depth c.args.x c.apply_env.ensures (swept_is c.in_ok-apply_env.was) (long c.args.base.now.words.now c.apply_env.new.work c.args.work.now c.apply_env.auto.work) c.onward.ensures (ok_is c.in_ok-argument.was) (long c.args.base.now.words.now c.onward.new.work c.apply_env.new.work c.onward.auto.work)).1 in let o = c.onward.ensures.wide in let g = c.well_formed.1.1.1.1.1.1.1.1.1.1.0.0 in omega arith
 
 pub calls::app_arg-app_end-requires : goal.calls::app_arg-app_end-requires
-calls::app_arg-app_end-requires t c = let b = c.requires.base_len_bound in let m = (second_more c.requires.ready_arg c.args.file.src.now c.args.file.index.now c.args.rules.classes.now c.args.methods.now c.args.depth c.args.x c.apply_env.ensures (swept_is c.in_ok-apply_env.was) (long c.args.base.words.now c.apply_env.new.work c.args.work.now c.apply_env.auto.work) c.onward.ensures (ok_is c.in_ok-argument.was) (long c.args.base.words.now c.onward.new.work c.apply_env.new.work c.onward.auto.work)).0 in record { base_len_bound = omega arith; ready_app_end = second_ends c.requires.ready_arg c.args.file.src.now c.args.file.index.now c.args.rules.classes.now c.args.methods.now c.args.depth c.args.x c.apply_env.ensures (swept_is c.in_ok-apply_env.was) (long c.args.base.words.now c.apply_env.new.work c.args.work.now c.apply_env.auto.work) c.onward.ensures (ok_is c.in_ok-argument.was) (long c.args.base.words.now c.onward.new.work c.apply_env.new.work c.onward.auto.work) }
+calls::app_arg-app_end-requires t c = let b = c.requires.base_len_bound in let m = (second_more c.requires.ready_arg c.args.file.src.now c.args.file.index.now c.args.rules.classes.now c.args.methods.now c.args.depth c.args.x c.apply_env.ensures (swept_is c.in_ok-apply_env.was) (long c.args.base.now.words.now c.apply_env.new.work c.args.work.now c.apply_env.auto.work) c.onward.ensures (ok_is c.in_ok-argument.was) (long c.args.base.now.words.now c.onward.new.work c.apply_env.new.work c.onward.auto.work)).0 in record { base_len_bound = omega arith; ready_app_end = second_ends c.requires.ready_arg c.args.file.src.now c.args.file.index.now c.args.rules.classes.now c.args.methods.now c.args.depth c.args.x c.apply_env.ensures (swept_is c.in_ok-apply_env.was) (long c.args.base.now.words.now c.apply_env.new.work c.args.work.now c.apply_env.auto.work) c.onward.ensures (ok_is c.in_ok-argument.was) (long c.args.base.now.words.now c.onward.new.work c.apply_env.new.work c.onward.auto.work) }
 
 pub calls::app_arg-shape_of-work : goal.calls::app_arg-shape_of-work
 calls::app_arg-shape_of-work t c = let x = c.app_end.auto.work in let y = c.onward.auto.work in let z = c.apply_env.auto.work in omega arith
@@ -60,10 +60,10 @@ pub calls::app_arg-shape_of-env : goal.calls::app_arg-shape_of-env
 calls::app_arg-shape_of-env t c = let y = c.onward.auto.env in let z = c.apply_env.auto.env in omega arith
 
 pub calls::app_arg-returns : goal.calls::app_arg-returns
-calls::app_arg-returns t c = second_gives c.requires.ready_arg c.args.file.src.now c.args.file.index.now c.args.rules.classes.now c.args.methods.now c.args.depth c.args.x c.apply_env.ensures (swept_is c.in_ok-apply_env.was) (long c.args.base.words.now c.apply_env.new.work c.args.work.now c.apply_env.auto.work) c.onward.ensures (ok_is c.in_ok-argument.was) (long c.args.base.words.now c.onward.new.work c.apply_env.new.work c.onward.auto.work) c.app_end.ensures
+calls::app_arg-returns t c = second_gives c.requires.ready_arg c.args.file.src.now c.args.file.index.now c.args.rules.classes.now c.args.methods.now c.args.depth c.args.x c.apply_env.ensures (swept_is c.in_ok-apply_env.was) (long c.args.base.now.words.now c.apply_env.new.work c.args.work.now c.apply_env.auto.work) c.onward.ensures (ok_is c.in_ok-argument.was) (long c.args.base.now.words.now c.onward.new.work c.apply_env.new.work c.onward.auto.work) c.app_end.ensures
 
 pub calls::app_arg-returns-in_err-argument : goal.calls::app_arg-returns-in_err-argument
-calls::app_arg-returns-in_err-argument t c = rw (thrown _ c.from_residual-in_err-argument.ensures.1) (second_lost c.requires.ready_arg c.args.file.src.now c.args.file.index.now c.args.rules.classes.now c.args.methods.now c.args.depth c.args.x c.apply_env.ensures (swept_is c.in_ok-apply_env.was) (long c.args.base.words.now c.apply_env.new.work c.args.work.now c.apply_env.auto.work) c.onward.ensures (err_is c.in_err-argument.was))
+calls::app_arg-returns-in_err-argument t c = rw (thrown _ c.from_residual-in_err-argument.ensures.1) (second_lost c.requires.ready_arg c.args.file.src.now c.args.file.index.now c.args.rules.classes.now c.args.methods.now c.args.depth c.args.x c.apply_env.ensures (swept_is c.in_ok-apply_env.was) (long c.args.base.now.words.now c.apply_env.new.work c.args.work.now c.apply_env.auto.work) c.onward.ensures (err_is c.in_err-argument.was))
 
 pub calls::app_arg-returns-in_err-apply_env : goal.calls::app_arg-returns-in_err-apply_env
 calls::app_arg-returns-in_err-apply_env t c = rw (thrown _ c.from_residual.ensures.1) (arg_lost c.requires.ready_arg c.args.file.src.now c.args.file.index.now c.args.rules.classes.now c.args.methods.now c.args.depth c.args.x c.apply_env.ensures (unswept_is c.in_err-apply_env.was))
@@ -93,10 +93,10 @@ pub functions::abs_rest-infer-requires : goal.functions::abs_rest-infer-requires
 functions::abs_rest-infer-requires t c = (omega arith, (c.requires.base_len_bound, body_asks c.requires.ready_i c.args.a c.requires.hidden c.requires.a_lt_first_nullary))
 
 pub functions::abs_rest-abs_end-requires : goal.functions::abs_rest-abs_end-requires
-functions::abs_rest-abs_end-requires t c = let b = c.requires.base_len_bound in let m = body_more c.requires.ready_i c.args.a c.requires.hidden c.requires.a_lt_first_nullary c.args.depth c.infer.ensures (ok_is c.in_ok-body.was) (long c.args.base.words.now c.infer.new.work c.args.work.now c.infer.auto.work) in record { base_len_bound = omega arith; ready_abs_end = body_ends c.requires.ready_i c.args.a c.requires.hidden c.requires.a_lt_first_nullary c.args.depth c.infer.ensures (ok_is c.in_ok-body.was) (long c.args.base.words.now c.infer.new.work c.args.work.now c.infer.auto.work) }
+functions::abs_rest-abs_end-requires t c = let b = c.requires.base_len_bound in let m = body_more c.requires.ready_i c.args.a c.requires.hidden c.requires.a_lt_first_nullary c.args.depth c.infer.ensures (ok_is c.in_ok-body.was) (long c.args.base.now.words.now c.infer.new.work c.args.work.now c.infer.auto.work) in record { base_len_bound = omega arith; ready_abs_end = body_ends c.requires.ready_i c.args.a c.requires.hidden c.requires.a_lt_first_nullary c.args.depth c.infer.ensures (ok_is c.in_ok-body.was) (long c.args.base.now.words.now c.infer.new.work c.args.work.now c.infer.auto.work) }
 
 pub functions::abs_rest-returns : goal.functions::abs_rest-returns
-functions::abs_rest-returns t c = body_gives c.requires.ready_i c.args.a c.requires.hidden c.requires.a_lt_first_nullary c.args.depth c.infer.ensures (ok_is c.in_ok-body.was) (long c.args.base.words.now c.infer.new.work c.args.work.now c.infer.auto.work) c.abs_end.ensures
+functions::abs_rest-returns t c = body_gives c.requires.ready_i c.args.a c.requires.hidden c.requires.a_lt_first_nullary c.args.depth c.infer.ensures (ok_is c.in_ok-body.was) (long c.args.base.now.words.now c.infer.new.work c.args.work.now c.infer.auto.work) c.abs_end.ensures
 
 pub functions::abs_rest-returns-in_err-body : goal.functions::abs_rest-returns-in_err-body
 functions::abs_rest-returns-in_err-body t c = rw (thrown _ c.from_residual.ensures.1) (body_lost c.requires.ready_i c.args.a c.requires.hidden c.requires.a_lt_first_nullary c.args.depth c.infer.ensures (err_is c.in_err-body.was))
@@ -171,13 +171,13 @@ pub inside::let_rest-onward-requires : goal.inside::let_rest-onward-requires
 inside::let_rest-onward-requires t c = let q = rest_asks c.requires.ready_body c.requires.hidden in (omega arith, (c.requires.base_len_bound, (q.0, q.1)))
 
 pub inside::let_rest-overflow_add-body : goal.inside::let_rest-overflow_add-body
-inside::let_rest-overflow_add-body t c = let q = (rest_more c.requires.ready_body c.requires.hidden c.args.depth c.onward.ensures (ok_is c.in_ok-body.was) (long c.args.base.words.now c.onward.new.work c.args.work.now c.onward.auto.work)).1 in let o = c.onward.ensures.wide in let g = c.well_formed.1.1.1.1.1.1.1.1.1.1.0.0 in omega arith
+inside::let_rest-overflow_add-body t c = let q = (rest_more c.requires.ready_body c.requires.hidden c.args.depth c.onward.ensures (ok_is c.in_ok-body.was) (long c.args.base.now.words.now c.onward.new.work c.args.work.now c.onward.auto.work)).1 in let o = c.onward.ensures.wide in let g = c.well_formed.1.1.1.1.1.1.1.1.1.1.0.0 in omega arith
 
 pub inside::let_rest-let_end-requires : goal.inside::let_rest-let_end-requires
-inside::let_rest-let_end-requires t c = let b = c.requires.base_len_bound in let m = (rest_more c.requires.ready_body c.requires.hidden c.args.depth c.onward.ensures (ok_is c.in_ok-body.was) (long c.args.base.words.now c.onward.new.work c.args.work.now c.onward.auto.work)).0 in record { base_len_bound = omega arith; ready_let_end = rest_ends c.requires.ready_body c.requires.hidden c.args.depth c.onward.ensures (ok_is c.in_ok-body.was) (long c.args.base.words.now c.onward.new.work c.args.work.now c.onward.auto.work) }
+inside::let_rest-let_end-requires t c = let b = c.requires.base_len_bound in let m = (rest_more c.requires.ready_body c.requires.hidden c.args.depth c.onward.ensures (ok_is c.in_ok-body.was) (long c.args.base.now.words.now c.onward.new.work c.args.work.now c.onward.auto.work)).0 in record { base_len_bound = omega arith; ready_let_end = rest_ends c.requires.ready_body c.requires.hidden c.args.depth c.onward.ensures (ok_is c.in_ok-body.was) (long c.args.base.now.words.now c.onward.new.work c.args.work.now c.onward.auto.work) }
 
 pub inside::let_rest-returns : goal.inside::let_rest-returns
-inside::let_rest-returns t c = rest_gives c.requires.ready_body c.requires.hidden c.args.depth c.onward.ensures (ok_is c.in_ok-body.was) (long c.args.base.words.now c.onward.new.work c.args.work.now c.onward.auto.work) c.let_end.ensures
+inside::let_rest-returns t c = rest_gives c.requires.ready_body c.requires.hidden c.args.depth c.onward.ensures (ok_is c.in_ok-body.was) (long c.args.base.now.words.now c.onward.new.work c.args.work.now c.onward.auto.work) c.let_end.ensures
 
 pub inside::let_rest-returns-in_err-body : goal.inside::let_rest-returns-in_err-body
 inside::let_rest-returns-in_err-body t c = rw (thrown _ c.from_residual.ensures.1) (rest_lost c.requires.ready_body c.requires.hidden c.args.depth c.onward.ensures (err_is c.in_err-body.was))
@@ -186,10 +186,10 @@ pub lets::binding-infer-requires : goal.lets::binding-infer-requires
 lets::binding-infer-requires t c = (omega arith, (c.requires.base_len_bound, bound_asks c.requires.ready_i c.args.r))
 
 pub lets::binding-let_mid-requires : goal.lets::binding-let_mid-requires
-lets::binding-let_mid-requires t c = let b = c.requires.base_len_bound in let m = bound_more c.requires.ready_i c.args.r c.args.depth c.args.f c.infer.ensures (ok_is c.in_ok-bound.was) (long c.args.base.words.now c.infer.new.work c.args.work.now c.infer.auto.work) in (omega arith, (omega arith, bound_mid c.requires.ready_i c.args.r c.args.depth c.args.f c.infer.ensures (ok_is c.in_ok-bound.was) (long c.args.base.words.now c.infer.new.work c.args.work.now c.infer.auto.work)))
+lets::binding-let_mid-requires t c = let b = c.requires.base_len_bound in let m = bound_more c.requires.ready_i c.args.r c.args.depth c.args.f c.infer.ensures (ok_is c.in_ok-bound.was) (long c.args.base.now.words.now c.infer.new.work c.args.work.now c.infer.auto.work) in (omega arith, (omega arith, bound_mid c.requires.ready_i c.args.r c.args.depth c.args.f c.infer.ensures (ok_is c.in_ok-bound.was) (long c.args.base.now.words.now c.infer.new.work c.args.work.now c.infer.auto.work)))
 
 pub lets::binding-returns : goal.lets::binding-returns
-lets::binding-returns t c = bound_gives c.requires.ready_i c.args.r c.args.depth c.args.f c.infer.ensures (ok_is c.in_ok-bound.was) (long c.args.base.words.now c.infer.new.work c.args.work.now c.infer.auto.work) c.let_mid.ensures
+lets::binding-returns t c = bound_gives c.requires.ready_i c.args.r c.args.depth c.args.f c.infer.ensures (ok_is c.in_ok-bound.was) (long c.args.base.now.words.now c.infer.new.work c.args.work.now c.infer.auto.work) c.let_mid.ensures
 
 pub lets::binding-returns-in_err-bound : goal.lets::binding-returns-in_err-bound
 lets::binding-returns-in_err-bound t c = rw (thrown _ c.from_residual.ensures.1) (bound_lost c.requires.ready_i c.args.r c.args.depth c.args.f c.infer.ensures (err_is c.in_err-bound.was))
@@ -198,10 +198,10 @@ pub lets::let_mid-general-requires : goal.lets::let_mid-general-requires
 lets::let_mid-general-requires t c = record { base_len_bound = c.requires.base_len_bound; ready_mid = c.requires.ready_mid }
 
 pub lets::let_mid-let_body-requires : goal.lets::let_mid-let_body-requires
-lets::let_mid-let_body-requires t c = let b = c.requires.base_len_bound in let m = mid_more c.requires.ready_mid c.args.r c.args.file.src.now c.args.file.index.now c.args.rules.classes.now c.args.methods.now c.args.depth c.args.f c.general.ensures (general_is c.in_ok-g.was) (long c.args.base.words.now c.general.new.work c.args.work.now c.general.auto.work) in (omega arith, (omega arith, mid_body c.requires.ready_mid c.args.r c.args.file.src.now c.args.file.index.now c.args.rules.classes.now c.args.methods.now c.args.depth c.args.f c.general.ensures (general_is c.in_ok-g.was) (long c.args.base.words.now c.general.new.work c.args.work.now c.general.auto.work)))
+lets::let_mid-let_body-requires t c = let b = c.requires.base_len_bound in let m = mid_more c.requires.ready_mid c.args.r c.args.file.src.now c.args.file.index.now c.args.rules.classes.now c.args.methods.now c.args.depth c.args.f c.general.ensures (general_is c.in_ok-g.was) (long c.args.base.now.words.now c.general.new.work c.args.work.now c.general.auto.work) in (omega arith, (omega arith, mid_body c.requires.ready_mid c.args.r c.args.file.src.now c.args.file.index.now c.args.rules.classes.now c.args.methods.now c.args.depth c.args.f c.general.ensures (general_is c.in_ok-g.was) (long c.args.base.now.words.now c.general.new.work c.args.work.now c.general.auto.work)))
 
 pub lets::let_mid-returns : goal.lets::let_mid-returns
-lets::let_mid-returns t c = mid_gives c.requires.ready_mid c.args.r c.args.file.src.now c.args.file.index.now c.args.rules.classes.now c.args.methods.now c.args.depth c.args.f c.general.ensures (general_is c.in_ok-g.was) (long c.args.base.words.now c.general.new.work c.args.work.now c.general.auto.work) c.let_body.ensures
+lets::let_mid-returns t c = mid_gives c.requires.ready_mid c.args.r c.args.file.src.now c.args.file.index.now c.args.rules.classes.now c.args.methods.now c.args.depth c.args.f c.general.ensures (general_is c.in_ok-g.was) (long c.args.base.now.words.now c.general.new.work c.args.work.now c.general.auto.work) c.let_body.ensures
 
 pub lets::let_mid-returns-in_err-g : goal.lets::let_mid-returns-in_err-g
 lets::let_mid-returns-in_err-g t c = rw (thrown _ c.from_residual.ensures.1) (mid_lost c.requires.ready_mid c.args.r c.args.file.src.now c.args.file.index.now c.args.rules.classes.now c.args.methods.now c.args.depth c.args.f c.general.ensures (general_refused c.in_err-g.was))

@@ -10,7 +10,7 @@ pub app_end-requires : goal.app_end-requires
 app_end-requires c = record { base_len_bound = c.requires.base_len_bound; ready_app = app_asks c.requires.ready_app }
 
 pub app_last-requires : goal.app_last-requires
-app_last-requires c = let b = c.requires.base_len_bound in let m = app_more c.requires.ready_app c.app_end.ensures (join_is c.in_ok-join.was) in record { base_len_bound = omega arith; ready_last = app_ready c.requires.ready_app c.app_end.ensures (join_is c.in_ok-join.was) (long c.args.base.words.now c.app_end.new.work c.args.work.now c.app_end.auto.work) }
+app_last-requires c = let b = c.requires.base_len_bound in let m = app_more c.requires.ready_app c.app_end.ensures (join_is c.in_ok-join.was) in record { base_len_bound = omega arith; ready_last = app_ready c.requires.ready_app c.app_end.ensures (join_is c.in_ok-join.was) (long c.args.base.now.words.now c.app_end.new.work c.args.work.now c.app_end.auto.work) }
 
 pub returns : goal.returns
 returns c = app_closed c.requires.ready_app c.app_end.ensures (join_is c.in_ok-join.was) c.app_last.ensures

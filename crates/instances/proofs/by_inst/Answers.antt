@@ -20,7 +20,7 @@ pub returns-in-Some-clause-gives : goal.returns-in-Some-clause-gives
 returns-in-Some-clause-gives c = let T = rw c.loop-i.invariant.0 at c.try_instance.ensures.gives in pick_at c.requires.ready_pick c.args.c c.loop-i.invariant.1 c.loop-i-test.true T (got_is c.in_ok-r.was c.in-Some.is)
 
 pub loop-i-preserved : goal.loop-i-preserved
-loop-i-preserved c = let T = rw c.loop-i.invariant.0 at c.try_instance.ensures.gives in (c.try_instance.ensures.stays (ok_as c.in_ok-r.was c.in_default.is) ∙ c.loop-i.invariant.0, pick_on c.requires.ready_pick c.args.c c.loop-i.invariant.1 c.loop-i-test.true T (failed_is _ c.in_ok-r.was c.in_default.is) (long c.args.base.words.now c.try_instance.new.work c.loop-i.work c.try_instance.auto.work))
+loop-i-preserved c = let T = rw c.loop-i.invariant.0 at c.try_instance.ensures.gives in (c.try_instance.ensures.stays (ok_as c.in_ok-r.was c.in_default.is) ∙ c.loop-i.invariant.0, pick_on c.requires.ready_pick c.args.c c.loop-i.invariant.1 c.loop-i-test.true T (failed_is _ c.in_ok-r.was c.in_default.is) (long c.args.base.now.words.now c.try_instance.new.work c.loop-i.work c.try_instance.auto.work))
 
 pub returns-clause-gives : goal.returns-clause-gives
 returns-clause-gives c = pick_none c.requires.ready_pick c.args.c c.loop-i.invariant.1 c.loop-i-test.false

@@ -17,10 +17,10 @@ pub returns-in_err-r-clause-gives : goal.returns-in_err-r-clause-gives
 returns-in_err-r-clause-gives c = let T = rw c.loop-j.invariant.0 at c.overlaps_instance.ensures.gives in rw (thrown _ c.from_residual.ensures.1) (apart_refused c.requires.ready_pick c.args.c c.loop-j.invariant.1 c.loop-j-test.true T (untold_is c.in_err-r.was))
 
 pub returns-then-r-clause-gives : goal.returns-then-r-clause-gives
-returns-then-r-clause-gives c = let T = rw c.loop-j.invariant.0 at c.overlaps_instance.ensures.gives in let S = rw c.in_ok-r.was at c.overlaps_instance.ensures.stays in rw (S, c.loop-j.invariant.0) (apart_not c.requires.ready_pick c.args.c c.loop-j.invariant.1 c.loop-j-test.true T (yes_is _ c.in_ok-r.was c.if-r.true) (long c.args.base.words.now c.overlaps_instance.new.work c.loop-j.work c.overlaps_instance.auto.work))
+returns-then-r-clause-gives c = let T = rw c.loop-j.invariant.0 at c.overlaps_instance.ensures.gives in let S = rw c.in_ok-r.was at c.overlaps_instance.ensures.stays in rw (S, c.loop-j.invariant.0) (apart_not c.requires.ready_pick c.args.c c.loop-j.invariant.1 c.loop-j-test.true T (yes_is _ c.in_ok-r.was c.if-r.true) (long c.args.base.now.words.now c.overlaps_instance.new.work c.loop-j.work c.overlaps_instance.auto.work))
 
 pub loop-j-preserved : goal.loop-j-preserved
-loop-j-preserved c = let T = rw c.loop-j.invariant.0 at c.overlaps_instance.ensures.gives in let S = rw c.in_ok-r.was at c.overlaps_instance.ensures.stays in (S ∙ c.loop-j.invariant.0, apart_on c.requires.ready_pick c.args.c c.loop-j.invariant.1 c.loop-j-test.true T (no_is _ c.in_ok-r.was c.if-r.false) (long c.args.base.words.now c.overlaps_instance.new.work c.loop-j.work c.overlaps_instance.auto.work))
+loop-j-preserved c = let T = rw c.loop-j.invariant.0 at c.overlaps_instance.ensures.gives in let S = rw c.in_ok-r.was at c.overlaps_instance.ensures.stays in (S ∙ c.loop-j.invariant.0, apart_on c.requires.ready_pick c.args.c c.loop-j.invariant.1 c.loop-j-test.true T (no_is _ c.in_ok-r.was c.if-r.false) (long c.args.base.now.words.now c.overlaps_instance.new.work c.loop-j.work c.overlaps_instance.auto.work))
 
 pub returns-clause-gives : goal.returns-clause-gives
 returns-clause-gives c = apart_all c.requires.ready_pick c.args.c c.loop-j.invariant.1 c.loop-j-test.false

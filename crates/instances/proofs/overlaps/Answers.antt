@@ -6,7 +6,7 @@ use Rattle.instances.proofs.Attempts.{overlaps_yes, overlaps_refused, back_ready
 use Rattle.instances.proofs.overlaps.Goals as goal
 
 pub overlaps_back-requires : goal.overlaps_back-requires
-overlaps_back-requires c = rw (c.try_match.ensures.stays (ok_as c.in_ok-r.was c.in-None.is)) (record { base_len_bound = c.requires.base_len_bound; ready_u = back_ready c.requires.ready_u c.try_match.ensures.gives (failed_is _ c.in_ok-r.was c.in-None.is) (long c.args.base.words.now c.try_match.new.work c.args.work.now c.try_match.auto.work) })
+overlaps_back-requires c = rw (c.try_match.ensures.stays (ok_as c.in_ok-r.was c.in-None.is)) (record { base_len_bound = c.requires.base_len_bound; ready_u = back_ready c.requires.ready_u c.try_match.ensures.gives (failed_is _ c.in_ok-r.was c.in-None.is) (long c.args.base.now.words.now c.try_match.new.work c.args.work.now c.try_match.auto.work) })
 
 pub returns-in_err-r-clause-gives : goal.returns-in_err-r-clause-gives
 returns-in_err-r-clause-gives c = rw (thrown _ c.from_residual.ensures.1) (overlaps_refused c.requires.ready_u c.try_match.ensures.gives (limit_is c.in_err-r.was))

@@ -14,7 +14,7 @@ pub rename-requires : goal.rename-requires
 rename-requires c = record { base_len_bound = c.requires.base_len_bound; ready_rename = type_ready c.requires.ready_instance }
 
 pub take_preds-requires : goal.take_preds-requires
-take_preds-requires c = let z = preds_ready c.requires.ready_instance c.rename.ensures (ok_is c.in_ok-ty.was) (long c.args.base.words.now c.rename.new.work c.args.work.now c.rename.auto.work) in let m = z.0 in let cl = c.requires.base_len_bound in record { base_len_bound = omega arith; ready_preds = z.1 }
+take_preds-requires c = let z = preds_ready c.requires.ready_instance c.rename.ensures (ok_is c.in_ok-ty.was) (long c.args.base.now.words.now c.rename.new.work c.args.work.now c.rename.auto.work) in let m = z.0 in let cl = c.requires.base_len_bound in record { base_len_bound = omega arith; ready_preds = z.1 }
 
 pub overflow_add-fresh : goal.overflow_add-fresh
 overflow_add-fresh c = let z = few_named c.requires.ready_instance c.rename.ensures (ok_is c.in_ok-ty.was) c.take_preds.ensures (ok_taken c.in_ok-rows.was) in omega arith

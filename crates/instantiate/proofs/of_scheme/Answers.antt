@@ -7,7 +7,7 @@ use Rattle.instantiate.proofs.Looking.{inst_refused, core_ready, core_refused, l
 use Rattle.instantiate.proofs.of_scheme.Goals as goal
 
 pub var_core-q-requires : goal.var_core-q-requires
-var_core-q-requires c = let z = core_ready c.requires.ready_instance c.requires.x_lt_first_fresh c.instantiate.ensures (ok_instance c.in_ok-o.was) (long c.args.base.words.now c.instantiate.new.work c.args.work.now c.instantiate.auto.work) c.instantiate.auto.binders in let m = z.0 in let cl = c.requires.base_len_bound in record { base_len_bound = omega arith; ready_core = z.1 }
+var_core-q-requires c = let z = core_ready c.requires.ready_instance c.requires.x_lt_first_fresh c.instantiate.ensures (ok_instance c.in_ok-o.was) (long c.args.base.now.words.now c.instantiate.new.work c.args.work.now c.instantiate.auto.work) c.instantiate.auto.binders in let m = z.0 in let cl = c.requires.base_len_bound in record { base_len_bound = omega arith; ready_core = z.1 }
 
 pub returns-in-Some : goal.returns-in-Some
 returns-in-Some c = rw c.var_core-q.ensures.left (look_done c.requires.ready_instance c.requires.x_lt_first_fresh c.instantiate.ensures (ok_instance c.in_ok-o.was) c.var_core-q.ensures.gives (some_core c.in-Some.is))

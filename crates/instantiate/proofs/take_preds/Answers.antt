@@ -19,7 +19,7 @@ pub cell_at-requires : goal.cell_at-requires
 cell_at-requires c = node_room c.loop-a.invariant.table
 
 pub shape_of-work : goal.shape_of-work
-shape_of-work c = same_short c.args.base.words.now c.args.work.now c.loop-a.work c.loop-a.invariant.long
+shape_of-work c = same_short c.args.base.now.words.now c.args.work.now c.loop-a.work c.loop-a.invariant.long
 
 pub shape_of-binders : goal.shape_of-binders
 shape_of-binders c = c.loop-a.invariant.many
@@ -40,7 +40,7 @@ pub put_row-requires : goal.put_row-requires
 put_row-requires c = (take_room c.requires.ready_preds c.loop-a.invariant c.cell_at.ensures c.in-Cons.is c.rename.ensures (ok_is c.in_ok-u.was)).0
 
 pub shape_of-work-in_err-u : goal.shape_of-work-in_err-u
-shape_of-work-in_err-u c = let y = same_short c.args.base.words.now c.args.work.now c.loop-a.work c.loop-a.invariant.long in let x = c.rename.auto.work in omega arith
+shape_of-work-in_err-u c = let y = same_short c.args.base.now.words.now c.args.work.now c.loop-a.work c.loop-a.invariant.long in let x = c.rename.auto.work in omega arith
 
 pub shape_of-binders-in_err-u : goal.shape_of-binders-in_err-u
 shape_of-binders-in_err-u c = c.loop-a.invariant.many
@@ -52,7 +52,7 @@ pub overflow_add-m : goal.overflow_add-m
 overflow_add-m c = let z = (take_room c.requires.ready_preds c.loop-a.invariant c.cell_at.ensures c.in-Cons.is c.rename.ensures (ok_is c.in_ok-u.was)).1 in omega arith
 
 pub loop-a-smaller : goal.loop-a-smaller
-loop-a-smaller c = (take_on c.requires.ready_preds c.loop-a.invariant c.cell_at.ensures c.in-Cons.is c.rename.ensures (ok_is c.in_ok-u.was) c.class_at-p.ensures (long c.args.base.words.now c.rename.new.work c.loop-a.work c.rename.auto.work) c.put_row.ensures).0
+loop-a-smaller c = (take_on c.requires.ready_preds c.loop-a.invariant c.cell_at.ensures c.in-Cons.is c.rename.ensures (ok_is c.in_ok-u.was) c.class_at-p.ensures (long c.args.base.now.words.now c.rename.new.work c.loop-a.work c.rename.auto.work) c.put_row.ensures).0
 
 pub loop-a-preserved : goal.loop-a-preserved
-loop-a-preserved c = (take_on c.requires.ready_preds c.loop-a.invariant c.cell_at.ensures c.in-Cons.is c.rename.ensures (ok_is c.in_ok-u.was) c.class_at-p.ensures (long c.args.base.words.now c.rename.new.work c.loop-a.work c.rename.auto.work) c.put_row.ensures).1
+loop-a-preserved c = (take_on c.requires.ready_preds c.loop-a.invariant c.cell_at.ensures c.in-Cons.is c.rename.ensures (ok_is c.in_ok-u.was) c.class_at-p.ensures (long c.args.base.now.words.now c.rename.new.work c.loop-a.work c.rename.auto.work) c.put_row.ensures).1

@@ -34,7 +34,7 @@ pub match_cons-returns : goal.match_cons-returns
 match_cons-returns t c = cons_go c.requires.ready_u c.requires.shapes c.args.depth c.count_list-i.ensures c.count_list-j.ensures c.if-c-d.false c.if-i-j.false c.match_zip.ensures
 
 pub match_one-merge_pairs-requires : goal.match_one-merge_pairs-requires
-match_one-merge_pairs-requires t c = let b = c.requires.base_len_bound in let m = one_more c.requires.ready_one c.args.depth c.match_ty.ensures (ok_is c.in_ok-k2.was) in record { base_len_bound = omega arith; both = one_both c.requires.ready_one c.args.depth c.match_ty.ensures (ok_is c.in_ok-k2.was) (long c.args.base.words.now c.match_ty.new.work c.args.work.now c.match_ty.auto.work) }
+match_one-merge_pairs-requires t c = let b = c.requires.base_len_bound in let m = one_more c.requires.ready_one c.args.depth c.match_ty.ensures (ok_is c.in_ok-k2.was) in record { base_len_bound = omega arith; both = one_both c.requires.ready_one c.args.depth c.match_ty.ensures (ok_is c.in_ok-k2.was) (long c.args.base.now.words.now c.match_ty.new.work c.args.work.now c.match_ty.auto.work) }
 
 pub match_one-returns : goal.match_one-returns
 match_one-returns t c = one_done c.requires.ready_one c.args.depth c.match_ty.ensures (ok_is c.in_ok-k2.was) c.merge_pairs.ensures
@@ -76,7 +76,7 @@ pub match_zip-match_one-requires : goal.match_zip-match_one-requires
 match_zip-match_one-requires t c = (omega arith, (c.requires.base_len_bound, zip_one c.requires.ready_one c.args.depth c.cell_at-p.ensures c.cell_at-q.ensures c.in-Cons.is c.in-Cons-q.is))
 
 pub match_zip-match_zip-requires : goal.match_zip-match_zip-requires
-match_zip-match_zip-requires t c = let g = (got c.match_one.ensures (ok_is c.in_ok-k2-in-Cons-q.was)).1 in (let d = g.down in omega arith, (let b = c.requires.base_len_bound in let m = g.more in omega arith, zip_ready c.requires.ready_one c.args.depth c.cell_at-p.ensures c.cell_at-q.ensures c.in-Cons.is c.in-Cons-q.is c.match_one.ensures (ok_is c.in_ok-k2-in-Cons-q.was) (long c.args.base.words.now c.match_one.new.work c.args.work.now c.match_one.auto.work)))
+match_zip-match_zip-requires t c = let g = (got c.match_one.ensures (ok_is c.in_ok-k2-in-Cons-q.was)).1 in (let d = g.down in omega arith, (let b = c.requires.base_len_bound in let m = g.more in omega arith, zip_ready c.requires.ready_one c.args.depth c.cell_at-p.ensures c.cell_at-q.ensures c.in-Cons.is c.in-Cons-q.is c.match_one.ensures (ok_is c.in_ok-k2-in-Cons-q.was) (long c.args.base.now.words.now c.match_one.new.work c.args.work.now c.match_one.auto.work)))
 
 pub match_zip-returns-in-Nil : goal.match_zip-returns-in-Nil
 match_zip-returns-in-Nil t c = zip_end c.requires.ready_one c.args.depth c.cell_at-p.ensures c.cell_at-q.ensures c.in-Nil.is

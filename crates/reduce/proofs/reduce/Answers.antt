@@ -16,7 +16,7 @@ pub returns-in_err-reduce_row : goal.returns-in_err-reduce_row
 returns-in_err-reduce_row c = rw (thrown _ c.from_residual.ensures.1) (reduced_refused c.requires.ready_reduce c.args.rules.classes.now c.loop-j.invariant c.loop-j-test.true c.reduce_row.ensures (refused_is c.in_err-reduce_row.was))
 
 pub loop-j-preserved : goal.loop-j-preserved
-loop-j-preserved c = reduced_on c.requires.ready_reduce c.args.rules.classes.now c.loop-j.invariant c.loop-j-test.true c.reduce_row.ensures (reduced_is c.in_ok-reduce_row.was) (long c.args.base.words.now c.reduce_row.new.work c.loop-j.work c.reduce_row.auto.work) c.reduce_row.auto.binders
+loop-j-preserved c = reduced_on c.requires.ready_reduce c.args.rules.classes.now c.loop-j.invariant c.loop-j-test.true c.reduce_row.ensures (reduced_is c.in_ok-reduce_row.was) (long c.args.base.now.words.now c.reduce_row.new.work c.loop-j.work c.reduce_row.auto.work) c.reduce_row.auto.binders
 
 pub returns : goal.returns
 returns c = reduced_all c.requires.ready_reduce c.args.rules.classes.now c.loop-j.invariant (let l = c.loop-j-test.false in omega arith)

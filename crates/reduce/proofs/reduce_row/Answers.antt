@@ -9,4 +9,4 @@ pub returns-in-Some : goal.returns-in-Some
 returns-in-Some c = row_found c.requires.ready_reduce c.args.rules.classes.now c.row_at-q.ensures c.in-Pending.is c.reduce_one.ensures.gives (found_is (ok_as c.in_ok-r.was c.in-Some.is)) c.mark_row.ensures
 
 pub returns-in_default-r : goal.returns-in_default-r
-returns-in_default-r c = rw (c.reduce_one.ensures.stays (ok_as c.in_ok-r.was c.in_default-r.is)) (row_stays c.requires.ready_reduce c.args.rules.classes.now c.row_at-q.ensures c.in-Pending.is c.reduce_one.ensures.gives (none_is _ (ok_as c.in_ok-r.was c.in_default-r.is)) (long c.args.base.words.now c.reduce_one.new.work c.args.work.now c.reduce_one.auto.work))
+returns-in_default-r c = rw (c.reduce_one.ensures.stays (ok_as c.in_ok-r.was c.in_default-r.is)) (row_stays c.requires.ready_reduce c.args.rules.classes.now c.row_at-q.ensures c.in-Pending.is c.reduce_one.ensures.gives (none_is _ (ok_as c.in_ok-r.was c.in_default-r.is)) (long c.args.base.now.words.now c.reduce_one.new.work c.args.work.now c.reduce_one.auto.work))

@@ -11,7 +11,7 @@ pub returns-in_err-p : goal.returns-in_err-p
 returns-in_err-p c = rw (thrown _ c.from_residual.ensures.1) (choose_refused c.requires.ready_pick c.args.c c.by_inst.ensures.gives (unpicked_is c.in_err-p.was))
 
 pub returns-in_default : goal.returns-in_default
-returns-in_default c = rw (c.by_inst.ensures.stays (ok_as c.in_ok-p.was c.in_default.is)) (choose_none c.requires.ready_pick c.args.c c.by_inst.ensures.gives (nothing_is _ c.in_ok-p.was c.in_default.is) (long c.args.base.words.now c.by_inst.new.work c.args.work.now c.by_inst.auto.work))
+returns-in_default c = rw (c.by_inst.ensures.stays (ok_as c.in_ok-p.was c.in_default.is)) (choose_none c.requires.ready_pick c.args.c c.by_inst.ensures.gives (nothing_is _ c.in_ok-p.was c.in_default.is) (long c.args.base.now.words.now c.by_inst.new.work c.args.work.now c.by_inst.auto.work))
 
 pub instance_at-x-requires : goal.instance_at-x-requires
 instance_at-x-requires c = let z = pick_open c.requires.ready_pick c.args.c c.by_inst.ensures.gives (at_is c.in_ok-p.was c.in-Some.is) in record { i_in_bounds = z.0; openable = z.1 }
@@ -29,4 +29,4 @@ pub returns-in_err-g : goal.returns-in_err-g
 returns-in_err-g c = rw (thrown _ c.from_residual-in_err-g.ensures.1) (choose_lost c.requires.ready_pick c.args.c c.by_inst.ensures.gives (at_is c.in_ok-p.was c.in-Some.is) c.instance_at-x.ensures c.apply_preds.ensures (err_is c.in_err-g.was))
 
 pub returns : goal.returns
-returns c = choose_by c.requires.ready_pick c.args.c c.by_inst.ensures.gives (at_is c.in_ok-p.was c.in-Some.is) c.instance_at-x.ensures c.apply_preds.ensures (ok_is c.in_ok-g.was) (long c.args.base.words.now c.apply_preds.new.work c.by_inst.new.work c.apply_preds.auto.work)
+returns c = choose_by c.requires.ready_pick c.args.c c.by_inst.ensures.gives (at_is c.in_ok-p.was c.in-Some.is) c.instance_at-x.ensures c.apply_preds.ensures (ok_is c.in_ok-g.was) (long c.args.base.now.words.now c.apply_preds.new.work c.by_inst.new.work c.apply_preds.auto.work)

@@ -13,7 +13,7 @@ pub returns-in_err-apply_row : goal.returns-in_err-apply_row
 returns-in_err-apply_row c = rw (thrown _ c.from_residual.ensures.1) (swept_refused c.requires.ready_env c.loop-r.invariant c.loop-r-test.true c.apply_row.ensures (err_is c.in_err-apply_row.was))
 
 pub loop-r-preserved : goal.loop-r-preserved
-loop-r-preserved c = swept_on c.requires.ready_env c.loop-r.invariant c.loop-r-test.true c.apply_row.ensures (ok_is c.in_ok-apply_row.was) (long c.args.base.words.now c.apply_row.new.work c.loop-r.work c.apply_row.auto.work)
+loop-r-preserved c = swept_on c.requires.ready_env c.loop-r.invariant c.loop-r-test.true c.apply_row.ensures (ok_is c.in_ok-apply_row.was) (long c.args.base.now.words.now c.apply_row.new.work c.loop-r.work c.apply_row.auto.work)
 
 pub returns : goal.returns
 returns c = swept_all c.requires.ready_env c.loop-r.invariant (let l = c.loop-r-test.false in omega arith)

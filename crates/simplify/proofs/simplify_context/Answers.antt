@@ -9,7 +9,7 @@ pub loop-i-init : goal.loop-i-init
 loop-i-init c = going _ c.requires.ready_simplify
 
 pub loop-i-preserved : goal.loop-i-preserved
-loop-i-preserved c = turn_goes c.loop-i.invariant c.sift.ensures (ok_is c.in_ok-sift.was) c.loop-i-test.true (long c.args.base.words.now c.sift.new.work c.loop-i.work c.sift.auto.work) c.sift.auto.binders
+loop-i-preserved c = turn_goes c.loop-i.invariant c.sift.ensures (ok_is c.in_ok-sift.was) c.loop-i-test.true (long c.args.base.now.words.now c.sift.new.work c.loop-i.work c.sift.auto.work) c.sift.auto.binders
 
 pub returns : goal.returns
 returns c = all_done c.loop-i.invariant (let l = c.loop-i-test.false in omega arith)

@@ -18,16 +18,16 @@ pub apply_pred_but-requires : goal.apply_pred_but-requires
 apply_pred_but-requires t c = let k = cons_head c.requires.ready_but.ty.node c.cell_at-c.ensures c.in-Cons.is in record { base_len_bound = c.requires.base_len_bound; ready_but = but_first c.requires.ready_but (omega arith) k.1 }
 
 pub apply_preds_but-requires : goal.apply_preds_but-requires
-apply_preds_but-requires t c = let k = cons_tail c.requires.ready_but.ty.node c.cell_at-c.ensures c.in-Cons.is in let q = rest_next c.requires.ready_but c.cell_at-c.ensures c.in-Cons.is c.class_at-p.ensures c.apply_pred_but.ensures (ok_is c.in_ok-m-in-Cons.was) (long c.args.base.words.now c.apply_pred_but.new.work c.args.work.now c.apply_pred_but.auto.work) in let m = q.0 in let cl = c.requires.base_len_bound in (omega arith, (omega arith, q.1))
+apply_preds_but-requires t c = let k = cons_tail c.requires.ready_but.ty.node c.cell_at-c.ensures c.in-Cons.is in let q = rest_next c.requires.ready_but c.cell_at-c.ensures c.in-Cons.is c.class_at-p.ensures c.apply_pred_but.ensures (ok_is c.in_ok-m-in-Cons.was) (long c.args.base.now.words.now c.apply_pred_but.new.work c.args.work.now c.apply_pred_but.auto.work) in let m = q.0 in let cl = c.requires.base_len_bound in (omega arith, (omega arith, q.1))
 
 pub add_pred-requires : goal.add_pred-requires
-add_pred-requires t c = let q = cell_room c.requires.ready_but c.cell_at-c.ensures c.in-Cons.is c.class_at-p.ensures c.apply_pred_but.ensures (ok_is c.in_ok-m-in-Cons.was) c.apply_preds_but.ensures (ok_is c.in_ok-n-in-Cons.was) (long c.args.base.words.now c.apply_preds_but.new.work c.args.work.now (c.apply_preds_but.auto.work ∙ c.apply_pred_but.auto.work)) (both_fit c.args.base.words.now c.args.work.now c.well_formed.0.1.1.0.0.1.0 c.well_formed.1.0.0) in let m = q.more in let cl = c.requires.base_len_bound in record { base_len_bound = omega arith; top_in_bounds = q.room }
+add_pred-requires t c = let q = cell_room c.requires.ready_but c.cell_at-c.ensures c.in-Cons.is c.class_at-p.ensures c.apply_pred_but.ensures (ok_is c.in_ok-m-in-Cons.was) c.apply_preds_but.ensures (ok_is c.in_ok-n-in-Cons.was) (long c.args.base.now.words.now c.apply_preds_but.new.work c.args.work.now (c.apply_preds_but.auto.work ∙ c.apply_pred_but.auto.work)) (both_fit c.args.base.now.words.now c.args.work.now (omega arith) c.well_formed.1.0.0) in let m = q.more in let cl = c.requires.base_len_bound in record { base_len_bound = omega arith; top_in_bounds = q.room }
 
 pub returns-in-Nil : goal.returns-in-Nil
 returns-in-Nil t c = gives (stays (no_preds _ c.requires.ready_but.ty.node _ _ c.cell_at-c.ensures c.in-Nil.is) c.requires.ready_but.ty.node (omega arith) (omega arith))
 
 pub returns-in_ok-n-in-Cons : goal.returns-in_ok-n-in-Cons
-returns-in_ok-n-in-Cons t c = rw (c.add_pred.ensures.word, c.add_pred.ensures.top, c.add_pred.ensures.left) (cell_done c.requires.ready_but c.cell_at-c.ensures c.in-Cons.is c.class_at-p.ensures c.apply_pred_but.ensures (ok_is c.in_ok-m-in-Cons.was) c.apply_preds_but.ensures (ok_is c.in_ok-n-in-Cons.was) (long c.args.base.words.now c.apply_preds_but.new.work c.args.work.now (c.apply_preds_but.auto.work ∙ c.apply_pred_but.auto.work)) (both_fit c.args.base.words.now c.args.work.now c.well_formed.0.1.1.0.0.1.0 c.well_formed.1.0.0) c.add_pred.ensures.is)
+returns-in_ok-n-in-Cons t c = rw (c.add_pred.ensures.word, c.add_pred.ensures.top, c.add_pred.ensures.left) (cell_done c.requires.ready_but c.cell_at-c.ensures c.in-Cons.is c.class_at-p.ensures c.apply_pred_but.ensures (ok_is c.in_ok-m-in-Cons.was) c.apply_preds_but.ensures (ok_is c.in_ok-n-in-Cons.was) (long c.args.base.now.words.now c.apply_preds_but.new.work c.args.work.now (c.apply_preds_but.auto.work ∙ c.apply_pred_but.auto.work)) (both_fit c.args.base.now.words.now c.args.work.now (omega arith) c.well_formed.1.0.0) c.add_pred.ensures.is)
 
 pub returns-in_err-n-in-Cons : goal.returns-in_err-n-in-Cons
 returns-in_err-n-in-Cons t c = rw (thrown _ c.from_residual-in_err-n-in-Cons.ensures.1) (rest_refused c.requires.ready_but c.cell_at-c.ensures c.in-Cons.is c.class_at-p.ensures c.apply_pred_but.ensures (ok_is c.in_ok-m-in-Cons.was) c.apply_preds_but.ensures (err_is c.in_err-n-in-Cons.was))

@@ -11,10 +11,10 @@ pub apply_rows-requires : goal.apply_rows-requires
 apply_rows-requires c = record { base_len_bound = c.requires.base_len_bound; ready_sweep = rows_asks c.requires.ready_rest }
 
 pub let_typed-requires : goal.let_typed-requires
-let_typed-requires c = let b = c.requires.base_len_bound in let p = rows_moved c.requires.ready_rest c.apply_rows.ensures c.apply_rows.auto.binders (swept_is c.in_ok-apply_rows.was) (long c.args.base.words.now c.apply_rows.new.work c.args.work.now c.apply_rows.auto.work) in let m = p.more in record { base_len_bound = omega arith; ready_rest = p.ready; x_in_bounds = c.requires.x_in_bounds }
+let_typed-requires c = let b = c.requires.base_len_bound in let p = rows_moved c.requires.ready_rest c.apply_rows.ensures c.apply_rows.auto.binders (swept_is c.in_ok-apply_rows.was) (long c.args.base.now.words.now c.apply_rows.new.work c.args.work.now c.apply_rows.auto.work) in let m = p.more in record { base_len_bound = omega arith; ready_rest = p.ready; x_in_bounds = c.requires.x_in_bounds }
 
 pub returns : goal.returns
-returns c = after_gives c.requires.ready_rest _ c.requires.x_in_bounds c.args.rules.classes.now c.apply_rows.ensures c.apply_rows.auto.binders (swept_is c.in_ok-apply_rows.was) (long c.args.base.words.now c.apply_rows.new.work c.args.work.now c.apply_rows.auto.work) c.let_typed.ensures
+returns c = after_gives c.requires.ready_rest _ c.requires.x_in_bounds c.args.rules.classes.now c.apply_rows.ensures c.apply_rows.auto.binders (swept_is c.in_ok-apply_rows.was) (long c.args.base.now.words.now c.apply_rows.new.work c.args.work.now c.apply_rows.auto.work) c.let_typed.ensures
 
 pub returns-in_err-apply_rows : goal.returns-in_err-apply_rows
 returns-in_err-apply_rows c = rw (thrown _ c.from_residual.ensures.1) (after_lost c.requires.ready_rest _ c.requires.x_in_bounds c.args.rules.classes.now c.apply_rows.ensures c.apply_rows.auto.binders (unswept_is c.in_err-apply_rows.was))

@@ -7,7 +7,7 @@ use Rattle.toplevel.proofs.Ways.{let_lost, let_rest, let_there, let_more, let_gi
 use Rattle.toplevel.proofs.process_let.Goals as goal
 
 pub let_after-requires : goal.let_after-requires
-let_after-requires c = let b = c.requires.base_len_bound in let m = let_more c.requires.ready_i 0 c.infer.ensures (ok_is c.in_ok-bound.was) in record { base_len_bound = omega arith; ready_rest = let_rest c.requires.ready_i 0 c.infer.ensures (ok_is c.in_ok-bound.was) (long c.args.base.words.now c.infer.new.work c.args.work.now c.infer.auto.work); x_in_bounds = let_there c.requires.ready_i _ c.infer.ensures (ok_is c.in_ok-bound.was) c.requires.x_bound }
+let_after-requires c = let b = c.requires.base_len_bound in let m = let_more c.requires.ready_i 0 c.infer.ensures (ok_is c.in_ok-bound.was) in record { base_len_bound = omega arith; ready_rest = let_rest c.requires.ready_i 0 c.infer.ensures (ok_is c.in_ok-bound.was) (long c.args.base.now.words.now c.infer.new.work c.args.work.now c.infer.auto.work); x_in_bounds = let_there c.requires.ready_i _ c.infer.ensures (ok_is c.in_ok-bound.was) c.requires.x_bound }
 
 pub returns : goal.returns
 returns c = let_gives c.requires.ready_i _ c.infer.ensures (ok_is c.in_ok-bound.was) c.let_after.ensures

@@ -11,7 +11,7 @@ use Rattle.unify.proofs.Ways.{un_deep, un_spent, un_var, un_con_var, un_arrow_va
 use Rattle.unify.proofs.+one_unify_unify_arrow_unify_con_unify_zip.Goals as goal
 
 pub one-join-requires : goal.one-join-requires
-one-join-requires t c = record { base_len_bound = let m = one_more_2 c.requires.ready_one c.args.depth c.both.ensures (two_ok c.in_ok-p.was) c.unify.ensures (ok_is c.in_ok-k2.was) in omega arith; ready_join = one_join c.requires.ready_one c.args.depth c.both.ensures (two_ok c.in_ok-p.was) c.unify.ensures (ok_is c.in_ok-k2.was) (long c.args.base.words.now c.both.new.work c.args.work.now c.both.auto.work) (long c.args.base.words.now c.unify.new.work c.both.new.work c.unify.auto.work) }
+one-join-requires t c = record { base_len_bound = let m = one_more_2 c.requires.ready_one c.args.depth c.both.ensures (two_ok c.in_ok-p.was) c.unify.ensures (ok_is c.in_ok-k2.was) in omega arith; ready_join = one_join c.requires.ready_one c.args.depth c.both.ensures (two_ok c.in_ok-p.was) c.unify.ensures (ok_is c.in_ok-k2.was) (long c.args.base.now.words.now c.both.new.work c.args.work.now c.both.auto.work) (long c.args.base.now.words.now c.unify.new.work c.both.new.work c.unify.auto.work) }
 
 pub one-returns : goal.one-returns
 one-returns t c = one_done c.requires.ready_one c.args.depth c.both.ensures (two_ok c.in_ok-p.was) c.unify.ensures (ok_is c.in_ok-k2.was) c.join.ensures
@@ -77,7 +77,7 @@ pub unify_zip-one-requires : goal.unify_zip-one-requires
 unify_zip-one-requires t c = (omega arith, (c.requires.base_len_bound, zip_ready c.requires.ready_one c.args.depth c.cell_at-p.ensures c.cell_at-q.ensures c.in-Cons.is c.in-Cons-q.is))
 
 pub unify_zip-unify_zip-requires : goal.unify_zip-unify_zip-requires
-unify_zip-unify_zip-requires t c = (let y = zip_less c.requires.ready_one c.args.depth c.cell_at-p.ensures c.cell_at-q.ensures c.in-Cons.is c.in-Cons-q.is c.one.ensures (ok_is c.in_ok-k2-in-Cons-q.was) in omega arith, (let m = zip_more c.requires.ready_one c.args.depth c.cell_at-p.ensures c.cell_at-q.ensures c.in-Cons.is c.in-Cons-q.is c.one.ensures (ok_is c.in_ok-k2-in-Cons-q.was) in omega arith, zip_rest c.requires.ready_one c.args.depth c.cell_at-p.ensures c.cell_at-q.ensures c.in-Cons.is c.in-Cons-q.is c.one.ensures (ok_is c.in_ok-k2-in-Cons-q.was) (long c.args.base.words.now c.one.new.work c.args.work.now c.one.auto.work)))
+unify_zip-unify_zip-requires t c = (let y = zip_less c.requires.ready_one c.args.depth c.cell_at-p.ensures c.cell_at-q.ensures c.in-Cons.is c.in-Cons-q.is c.one.ensures (ok_is c.in_ok-k2-in-Cons-q.was) in omega arith, (let m = zip_more c.requires.ready_one c.args.depth c.cell_at-p.ensures c.cell_at-q.ensures c.in-Cons.is c.in-Cons-q.is c.one.ensures (ok_is c.in_ok-k2-in-Cons-q.was) in omega arith, zip_rest c.requires.ready_one c.args.depth c.cell_at-p.ensures c.cell_at-q.ensures c.in-Cons.is c.in-Cons-q.is c.one.ensures (ok_is c.in_ok-k2-in-Cons-q.was) (long c.args.base.now.words.now c.one.new.work c.args.work.now c.one.auto.work)))
 
 pub unify_zip-returns-in-Nil : goal.unify_zip-returns-in-Nil
 unify_zip-returns-in-Nil t c = zip_end c.requires.ready_one _ c.cell_at-p.ensures c.cell_at-q.ensures c.in-Nil.is

@@ -16,13 +16,13 @@ pub rename-requires : goal.rename-requires
 rename-requires t c = record { base_len_bound = c.requires.base_len_bound; ready_rename = asks_type (type_asks c.requires.ready_letters c.cell_at-c.ensures c.in-Cons.is) }
 
 pub rename_binders-requires : goal.rename_binders-requires
-rename_binders-requires t c = let q = binders_asks c.requires.ready_letters c.cell_at-c.ensures c.in-Cons.is c.class_at-x.ensures c.rename.ensures (ok_is c.in_ok-m-in-Cons.was) (long c.args.base.words.now c.rename.new.work c.args.work.now c.rename.auto.work) in let f = binders_fewer c.requires.ready_letters c.cell_at-c.ensures c.in-Cons.is c.class_at-x.ensures c.rename.ensures (ok_is c.in_ok-m-in-Cons.was) in let m = q.0 in let cl = c.requires.base_len_bound in (omega arith, (omega arith, q.1))
+rename_binders-requires t c = let q = binders_asks c.requires.ready_letters c.cell_at-c.ensures c.in-Cons.is c.class_at-x.ensures c.rename.ensures (ok_is c.in_ok-m-in-Cons.was) (long c.args.base.now.words.now c.rename.new.work c.args.work.now c.rename.auto.work) in let f = binders_fewer c.requires.ready_letters c.cell_at-c.ensures c.in-Cons.is c.class_at-x.ensures c.rename.ensures (ok_is c.in_ok-m-in-Cons.was) in let m = q.0 in let cl = c.requires.base_len_bound in (omega arith, (omega arith, q.1))
 
 pub returns-in-Nil : goal.returns-in-Nil
 returns-in-Nil t c = binders_none c.requires.ready_letters c.cell_at-c.ensures c.in-Nil.is
 
 pub returns-in_ok-m2-in-Cons : goal.returns-in_ok-m2-in-Cons
-returns-in_ok-m2-in-Cons t c = rw (c.add_pred.ensures.word, c.add_pred.ensures.top, c.add_pred.ensures.left) (binders_done c.requires.ready_letters c.cell_at-c.ensures c.in-Cons.is c.class_at-x.ensures c.rename.ensures (ok_is c.in_ok-m-in-Cons.was) c.rename_binders.ensures (ok_is c.in_ok-m2-in-Cons.was) (long c.args.base.words.now c.rename_binders.new.work c.args.work.now (c.rename_binders.auto.work ∙ c.rename.auto.work)) (both_fit c.args.base.words.now c.args.work.now c.well_formed.0.1.1.0.0.1.0 c.well_formed.1.0.0) c.add_pred.ensures.is)
+returns-in_ok-m2-in-Cons t c = rw (c.add_pred.ensures.word, c.add_pred.ensures.top, c.add_pred.ensures.left) (binders_done c.requires.ready_letters c.cell_at-c.ensures c.in-Cons.is c.class_at-x.ensures c.rename.ensures (ok_is c.in_ok-m-in-Cons.was) c.rename_binders.ensures (ok_is c.in_ok-m2-in-Cons.was) (long c.args.base.now.words.now c.rename_binders.new.work c.args.work.now (c.rename_binders.auto.work ∙ c.rename.auto.work)) (both_fit c.args.base.now.words.now c.args.work.now (omega arith) c.well_formed.1.0.0) c.add_pred.ensures.is)
 
 pub returns-in_err-m2-in-Cons : goal.returns-in_err-m2-in-Cons
 returns-in_err-m2-in-Cons t c = rw (thrown _ c.from_residual-in_err-m2-in-Cons.ensures.1) (binders_refused_2 c.requires.ready_letters c.cell_at-c.ensures c.in-Cons.is c.class_at-x.ensures c.rename.ensures (ok_is c.in_ok-m-in-Cons.was) c.rename_binders.ensures (err_is c.in_err-m2-in-Cons.was))

@@ -14,7 +14,7 @@ pub rename_row-requires : goal.rename_row-requires
 rename_row-requires c = let x = c.requires.base_len_bound in let y = c.loop-i.invariant.more in record { base_len_bound = omega arith; ready_rename = c.loop-i.invariant.ready; i_lt_n = c.loop-i-test.true }
 
 pub shape_of-work-in_err-rename_row : goal.shape_of-work-in_err-rename_row
-shape_of-work-in_err-rename_row c = let x = joined c.args.base.words.now c.args.work.now in let y = joined c.args.base.words.now c.loop-i.work in let l = c.loop-i.invariant.long in let k = c.rename_row.auto.work in omega arith
+shape_of-work-in_err-rename_row c = let x = joined c.args.base.now.words.now c.args.work.now in let y = joined c.args.base.now.words.now c.loop-i.work in let l = c.loop-i.invariant.long in let k = c.rename_row.auto.work in omega arith
 
 pub shape_of-binders-in_err-rename_row : goal.shape_of-binders-in_err-rename_row
 shape_of-binders-in_err-rename_row c = let l = c.loop-i.invariant.rows_long in let k = c.rename_row.auto.binders in omega arith
@@ -23,10 +23,10 @@ pub returns-in_err-rename_row : goal.returns-in_err-rename_row
 returns-in_err-rename_row c = rw (thrown _ c.from_residual.ensures.1) (turn_stops c.loop-i.invariant c.rename_row.ensures c.loop-i-test.true (unrenamed_is c.in_err-rename_row.was))
 
 pub loop-i-preserved : goal.loop-i-preserved
-loop-i-preserved c = turn_goes c.loop-i.invariant c.rename_row.ensures (renamed_is c.in_ok-rename_row.was) c.loop-i-test.true (long c.args.base.words.now c.rename_row.new.work c.loop-i.work c.rename_row.auto.work) c.rename_row.auto.binders
+loop-i-preserved c = turn_goes c.loop-i.invariant c.rename_row.ensures (renamed_is c.in_ok-rename_row.was) c.loop-i-test.true (long c.args.base.now.words.now c.rename_row.new.work c.loop-i.work c.rename_row.auto.work) c.rename_row.auto.binders
 
 pub shape_of-work : goal.shape_of-work
-shape_of-work c = let x = joined c.args.base.words.now c.args.work.now in let y = joined c.args.base.words.now c.loop-i.work in let l = c.loop-i.invariant.long in omega arith
+shape_of-work c = let x = joined c.args.base.now.words.now c.args.work.now in let y = joined c.args.base.now.words.now c.loop-i.work in let l = c.loop-i.invariant.long in omega arith
 
 pub shape_of-binders : goal.shape_of-binders
 shape_of-binders c = c.loop-i.invariant.rows_long

@@ -10,7 +10,7 @@ pub rename_rows-requires : goal.rename_rows-requires
 rename_rows-requires c = record { base_len_bound = c.requires.base_len_bound; ready_rename = preds_asked c.requires.ready_letters }
 
 pub rename-requires : goal.rename-requires
-rename-requires c = let x = c.requires.base_len_bound in let y = preds_more c.requires.ready_letters c.rename_rows.ensures (ok_is c.in_ok-preds.was) in record { base_len_bound = omega arith; ready_rename = type_asked c.requires.ready_letters c.rename_rows.ensures (ok_is c.in_ok-preds.was) (long c.args.base.words.now c.rename_rows.new.work c.args.work.now c.rename_rows.auto.work) }
+rename-requires c = let x = c.requires.base_len_bound in let y = preds_more c.requires.ready_letters c.rename_rows.ensures (ok_is c.in_ok-preds.was) in record { base_len_bound = omega arith; ready_rename = type_asked c.requires.ready_letters c.rename_rows.ensures (ok_is c.in_ok-preds.was) (long c.args.base.now.words.now c.rename_rows.new.work c.args.work.now c.rename_rows.auto.work) }
 
 pub returns : goal.returns
 returns c = qual_named c.requires.ready_letters c.rename_rows.ensures (ok_is c.in_ok-preds.was) c.rename.ensures (ok_is c.in_ok-ty.was)

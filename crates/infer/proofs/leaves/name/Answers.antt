@@ -14,7 +14,7 @@ pub infer_var-requires : goal.infer_var-requires
 infer_var-requires c = record { base_len_bound = c.requires.base_len_bound; ready_look = name_asks c.requires.ready_i c.args.rules.classes.now c.args.methods.now c.args.x c.if-x-env.false }
 
 pub returns : goal.returns
-returns c = name_gives c.requires.ready_i c.args.rules.classes.now c.args.methods.now c.args.x c.if-x-env.false c.infer_var.ensures (long c.args.base.words.now c.infer_var.new.work c.args.work.now c.infer_var.auto.work) c.infer_var.auto.binders (ok_is c.in_ok-u.was)
+returns c = name_gives c.requires.ready_i c.args.rules.classes.now c.args.methods.now c.args.x c.if-x-env.false c.infer_var.ensures (long c.args.base.now.words.now c.infer_var.new.work c.args.work.now c.infer_var.auto.work) c.infer_var.auto.binders (ok_is c.in_ok-u.was)
 
 pub returns-in_err-u : goal.returns-in_err-u
-returns-in_err-u c = rw (thrown _ c.from_residual.ensures.1) (name_lost c.requires.ready_i c.args.rules.classes.now c.args.methods.now c.args.x c.if-x-env.false c.infer_var.ensures (long c.args.base.words.now c.infer_var.new.work c.args.work.now c.infer_var.auto.work) c.infer_var.auto.binders (err_is c.in_err-u.was))
+returns-in_err-u c = rw (thrown _ c.from_residual.ensures.1) (name_lost c.requires.ready_i c.args.rules.classes.now c.args.methods.now c.args.x c.if-x-env.false c.infer_var.ensures (long c.args.base.now.words.now c.infer_var.new.work c.args.work.now c.infer_var.auto.work) c.infer_var.auto.binders (err_is c.in_err-u.was))

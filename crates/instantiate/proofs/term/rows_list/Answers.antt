@@ -28,7 +28,7 @@ pub loop-j-preserved : goal.loop-j-preserved
 loop-j-preserved c = rw (c.add-l.ensures.word, c.add-l.ensures.top, c.add-l.ensures.left) (lists_on c.requires.ready_core c.loop-j.invariant.0 c.loop-j-test.true c.add-l.ensures.is, c.loop-j.invariant.1)
 
 pub shape_of-work : goal.shape_of-work
-shape_of-work c = same_short c.args.base.words.now c.args.work.now c.loop-j.work c.loop-j.invariant.0.long
+shape_of-work c = same_short c.args.base.now.words.now c.args.work.now c.loop-j.work c.loop-j.invariant.0.long
 
 pub returns : goal.returns
 returns c = let n = c.loop-j.invariant.0.count in record { lists = listed c.requires.ready_core c.loop-j.invariant.0 (omega arith); top = omega arith; left = c.loop-j.invariant.1 }

@@ -7,4 +7,4 @@ pub returns-in-Listed : goal.returns-in-Listed
 returns-in-Listed c = from_list _ _ _ _ _ _ c.in-Listed.is c.listed_at.ensures
 
 pub returns-in-Rows : goal.returns-in-Rows
-returns-in-Rows c = from_rows c.args.base.names.now (c.args.base.words.now ++ c.args.work.now) c.args.binders.now c.args.top c.args.i c.args.l c.in-Rows.is c.requires c.next_row.ensures
+returns-in-Rows c = from_rows c.args.base.now.names.now (c.args.base.now.words.now ++ c.args.work.now) c.args.binders.now c.args.top c.args.i c.args.l c.in-Rows.is c.requires c.next_row.ensures

@@ -8,7 +8,7 @@ use Rattle.toplevel.proofs.Lasts.{check_lost, check_gives}
 use Rattle.toplevel.proofs.checks.check.Goals as goal
 
 pub check_after-requires : goal.check_after-requires
-check_after-requires c = let b = c.requires.base_len_bound in let m = let_more c.requires.ready_i 0 c.infer.ensures (ok_is c.in_ok-of.was) in record { base_len_bound = omega arith; ready_rest = let_rest c.requires.ready_i 0 c.infer.ensures (ok_is c.in_ok-of.was) (long c.args.base.words.now c.infer.new.work c.args.work.now c.infer.auto.work) }
+check_after-requires c = let b = c.requires.base_len_bound in let m = let_more c.requires.ready_i 0 c.infer.ensures (ok_is c.in_ok-of.was) in record { base_len_bound = omega arith; ready_rest = let_rest c.requires.ready_i 0 c.infer.ensures (ok_is c.in_ok-of.was) (long c.args.base.now.words.now c.infer.new.work c.args.work.now c.infer.auto.work) }
 
 pub returns : goal.returns
 returns c = check_gives c.requires.ready_i c.infer.ensures (ok_is c.in_ok-of.was) c.check_after.ensures
