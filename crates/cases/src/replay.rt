@@ -14,7 +14,7 @@ pub fn all<F: FnMut(&mut Reader, Base) -> io::Result<()>>(
     names: &mut [u64],
     mut one: F,
 ) -> io::Result<()>
-    requires { (state : F) (reader : _) (base : _) → length base.now.words.now ≡ 0 → Names base.now.names.now → F.pre state reader base }
+    requires { (state : F) (reader : _) (base : _) → length base.words.now ≡ 0 → Names base.names.now → F.pre state reader base }
 {
     let mut reader = Reader::new(file);
     let names = rows::read(&mut reader, names);

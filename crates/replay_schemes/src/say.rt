@@ -66,3 +66,11 @@ pub fn answer<W: Write>(
         Err(e) => say::refusal(out, base, work, e, left),
     }
 }
+
+// Writes whether a scheme is closed.
+pub fn truth<W: Write>(out: &mut W, closed: bool) -> io::Result<()> {
+    if closed {
+        return write!(out, "closed");
+    }
+    write!(out, "not closed")
+}

@@ -175,10 +175,8 @@ fn run<W: Write>(
             cases::say::all(out, base, work, l)
         }
         Task::IsClosed => {
-            if subst::is_closed(base, work, room.top, scheme) {
-                return write!(out, "closed");
-            }
-            write!(out, "not closed")
+            let closed = subst::is_closed(base, work, room.top, scheme);
+            say::truth(out, closed)
         }
         Task::Fill(v) => {
             let r = filled(base, work, &mut room, v, scheme);
