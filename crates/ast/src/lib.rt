@@ -104,19 +104,62 @@ pub fn index(base: &Base, work: &[u64], i: usize) -> usize
     get(base, work, i) as usize
 }
 
+// The words of a node: its tag and two more.
+#[derive(Clone, Copy)]
+struct Words {
+    tag: u64,
+    a: u64,
+    b: u64,
+}
+
+// The words of node n, each wherever it lies. (Never inlined: the walks below then have one short way for nodes of the buffer.)
+#[inline(never)]
+fn words_anywhere(base: &Base, work: &[u64], n: usize) -> Words
+    requires { 4 * n + 4 ≤ length (base.now.words.now ++ work.now) }
+    ensures tag { result.tag ≡ get_or (base.now.words.now ++ work.now) (4 * n) 0 }
+    ensures a { result.a ≡ get_or (base.now.words.now ++ work.now) (4 * n + 1) 0 }
+    ensures b { result.b ≡ get_or (base.now.words.now ++ work.now) (4 * n + 2) 0 }
+{
+    let i = 4 * n;
+    Words {
+        tag: get(base, work, i),
+        a: get(base, work, i + 1),
+        b: get(base, work, i + 2),
+    }
+}
+
+// The words of node n. (One test of where it lies: with a test for each word a walk took half as long again.)
+fn words_at(base: &Base, work: &[u64], n: usize) -> Words
+    requires { 4 * n + 4 ≤ length (base.now.words.now ++ work.now) }
+    ensures tag { result.tag ≡ get_or (base.now.words.now ++ work.now) (4 * n) 0 }
+    ensures a { result.a ≡ get_or (base.now.words.now ++ work.now) (4 * n + 1) 0 }
+    ensures b { result.b ≡ get_or (base.now.words.now ++ work.now) (4 * n + 2) 0 }
+{
+    let i = 4 * n;
+    let count = base.words.len();
+    if i < count {
+        return words_anywhere(base, work, n);
+    }
+    let j = i - count;
+    Words {
+        tag: work[j],
+        a: work[j + 1],
+        b: work[j + 2],
+    }
+}
+
 // The shape that node n says, whose word is t.
 fn node_shape(base: &Base, work: &[u64], t: usize, n: usize) -> Shape
     requires { 4 * n + 4 ≤ length (base.now.words.now ++ work.now) }
     ensures { result ≡ shape t (get_or (base.now.words.now ++ work.now) (4 * n) 0) (get_or (base.now.words.now ++ work.now) (4 * n + 1) 0)
         (get_or (base.now.words.now ++ work.now) (4 * n + 2) 0) }
 {
-    let i = 4 * n;
-    let tag = get(base, work, i);
-    if tag == CON {
-        return Shape::Con(index(base, work, i + 1), index(base, work, i + 2));
+    let words = words_at(base, work, n);
+    if words.tag == CON {
+        return Shape::Con(words.a as usize, words.b as usize);
     }
-    if tag == ARROW {
-        return Shape::Arrow(index(base, work, i + 1), index(base, work, i + 2));
+    if words.tag == ARROW {
+        return Shape::Arrow(words.a as usize, words.b as usize);
     }
     Shape::Var(t)
 }
@@ -141,10 +184,9 @@ fn node_cell(base: &Base, work: &[u64], n: usize) -> Cell
     ensures { result ≡ cell (get_or (base.now.words.now ++ work.now) (4 * n) 0) (get_or (base.now.words.now ++ work.now) (4 * n + 1) 0)
         (get_or (base.now.words.now ++ work.now) (4 * n + 2) 0) }
 {
-    let i = 4 * n;
-    let tag = get(base, work, i);
-    if tag == CONS {
-        return Cell::Cons(index(base, work, i + 1), index(base, work, i + 2));
+    let words = words_at(base, work, n);
+    if words.tag == CONS {
+        return Cell::Cons(words.a as usize, words.b as usize);
     }
     Cell::Nil
 }
