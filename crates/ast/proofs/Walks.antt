@@ -1,5 +1,5 @@
 -- Laws of the walks over a type: counting, looking for a variable, and telling types apart.
-use Prim.Native.Nat.{ℕ, ◌+◌}
+use Prim.Native.Nat.{ℕ, ◌+◌, ◌-◌, ◌<◌, ◌≤◌}
 use native.Mathlib.Omega.{arith}
 use native.Mathlib.Numerals.{add-one}
 use mathlib.Core.Path.{◌≡◌, refl, ap, sym, ◌∙◌}
@@ -10,7 +10,7 @@ use borrow.Author.Tests.{eq-eqb, ne_eqb}
 use Rattle.meaning.specs.Base.{is_yes}
 use Rattle.meaning.specs.Ast.{Ty, var, same_ty, same_tyvar, count_tys}
 use Rattle.meaning.specs.Subst.{occurs}
-use Rattle.names.specs.Names.{tyvar_of, Names}
+use Rattle.names.specs.Names.{first_node, first_nullary, tyvar_of, Names}
 use Rattle.names.proofs.Distinct.{name_of_same, tyvar_of_same}
 use Rattle.ast.specs.declared.Shape.{Shape}
 use Rattle.ast.specs.declared.Shape.TheVariants.{Var, Con, Arrow}
@@ -18,7 +18,7 @@ use Rattle.ast.specs.declared.Cell.{Cell}
 use Rattle.ast.specs.declared.Cell.TheVariants.{Nil, Cons}
 use Rattle.ast.specs.Table.{shape_of, cell_of, tree, list, Node, Counted, SameTys}
 use Rattle.ast.proofs.Ranges.{cons_node}
-use Rattle.ast.proofs.Laws.{tree_var, tree_con, tree_arrow, list_nil, list_cons, cons_tail}
+use Rattle.ast.proofs.Laws.{low_var, low_con, tree_var, tree_con, tree_arrow, list_nil, list_cons, cons_tail}
 
 -- A decision's test is true of what holds.
 it_is : {P : Type 0} (d : Dec P) → P → true ≡ is_yes d
@@ -77,12 +77,28 @@ test_is : {P : Type 0} (x y : ℕ) (d : Dec P) → (x ≡ y → P) → (P → x 
 test_is x y (yes p) f g = eq-eqb x y (g p)
 test_is x y (no h) f g = ne_eqb x y (λ e. h (f e))
 
+-- Of two words of variables, whether they are one.
+occurs_word : {ns : List ℕ} (v x : ℕ) → Names ns → eqb v x ≡ occurs (tyvar_of ns v) (var (tyvar_of ns x))
+unfolding occurs
+occurs_word {ns} v x M = test_is v x (same_tyvar (tyvar_of ns v) (tyvar_of ns x)) (ap (tyvar_of ns)) (tyvar_of_same ns M v x)
+
 -- A variable stands in a variable where their words are equal.
 pub occurs_var : {ns w : List ℕ} {top t : ℕ} {r : Shape} {x : ℕ} (v : ℕ) → Names ns → Node w top t → r ≡ shape_of w t → r ≡ Var x
     → eqb v x ≡ occurs (tyvar_of ns v) (tree ns w t)
+occurs_var {ns} {x = x} v M N e k = rw (tree_var ns N e k) (occurs_word v x M)
+
+-- A word below those of constructors is a variable's.
+pub occurs_low : {ns : List ℕ} (w : List ℕ) {t : ℕ} (v : ℕ) → Names ns → t < first_nullary → eqb v t ≡ occurs (tyvar_of ns v) (tree ns w t)
+occurs_low {ns} w {t} v M h = rw (low_var ns w t h) (occurs_word v t M)
+
+-- In a constructor without arguments no variable stands.
+occurs_none : (ns w : List ℕ) (v i : ℕ) → i < first_nullary → false ≡ occurs (tyvar_of ns v) (tree ns w (first_nullary + i))
 unfolding occurs
-occurs_var {ns} {x = x} v M N e k =
-    rw (tree_var ns N e k) (test_is v x (same_tyvar (tyvar_of ns v) (tyvar_of ns x)) (ap (tyvar_of ns)) (tyvar_of_same ns M v x))
+occurs_none ns w v i h = rw (low_con ns w i h) refl
+
+-- From those words on up to the nodes' it is such a constructor.
+pub occurs_nullary : (ns w : List ℕ) {t : ℕ} (v : ℕ) → first_nullary ≤ t → t < first_node → false ≡ occurs (tyvar_of ns v) (tree ns w t)
+occurs_nullary ns w {t} v h k = let e : first_nullary + (t - first_nullary) ≡ t = omega arith in rw e at (occurs_none ns w v (t - first_nullary) (omega arith))
 
 -- Whether two words are the same type, by what they say.
 module _ {ns w : List ℕ} {top s t : ℕ} {p q : Shape} (M : Names ns) (S : Node w top s) (T : Node w top t) (e : p ≡ shape_of w s) (f : q ≡ shape_of w t) where

@@ -245,8 +245,26 @@ pub fn count_list(base: &Base, work: &[u64], top: usize, l: usize) -> usize
 }
 
 // Whether the variable of word v stands in the type t. A shared node is walked once for each place where it stands.
+// (Inlined always, so that a leaf costs no call: a word that names no node is a variable or a constructor without arguments.)
 #[cycle(occurs_in_occurs_list)]
+#[inline(always)]
 pub fn occurs_in(base: &Base, work: &[u64], top: usize, v: usize, t: usize) -> bool
+    requires names { Names base.now.names.now }
+    requires node { Node (base.now.words.now ++ work.now) top t }
+    ensures { result ≡ occurs (tyvar_of base.now.names.now v) (tree base.now.names.now (base.now.words.now ++ work.now) t) }
+{
+    if t < names::NULLARY {
+        return v == t;
+    }
+    if t < names::NODE {
+        return false;
+    }
+    occurs_below(base, work, top, v, t)
+}
+
+// The same of a type by its shape.
+#[cycle(occurs_in_occurs_list)]
+fn occurs_below(base: &Base, work: &[u64], top: usize, v: usize, t: usize) -> bool
     requires names { Names base.now.names.now }
     requires node { Node (base.now.words.now ++ work.now) top t }
     ensures { result ≡ occurs (tyvar_of base.now.names.now v) (tree base.now.names.now (base.now.words.now ++ work.now) t) }
@@ -283,8 +301,9 @@ fn occurs_list(base: &Base, work: &[u64], top: usize, v: usize, l: usize) -> boo
     }
 }
 
-// Whether the words s and t are the same type, as trees. Equal words are, with no walk.
+// Whether the words s and t are the same type, as trees. Equal words are, with no walk. (Inlined always, so that these cost no call.)
 #[cycle(same_same_list)]
+#[inline(always)]
 pub fn same(base: &Base, work: &[u64], top: usize, s: usize, t: usize) -> bool
     requires names { Names base.now.names.now }
     requires node { Node (base.now.words.now ++ work.now) top s }
@@ -294,6 +313,17 @@ pub fn same(base: &Base, work: &[u64], top: usize, s: usize, t: usize) -> bool
     if s == t {
         return true;
     }
+    same_below(base, work, top, s, t)
+}
+
+// The same by their shapes.
+#[cycle(same_same_list)]
+fn same_below(base: &Base, work: &[u64], top: usize, s: usize, t: usize) -> bool
+    requires names { Names base.now.names.now }
+    requires node { Node (base.now.words.now ++ work.now) top s }
+    requires node_2 { Node (base.now.words.now ++ work.now) top t }
+    ensures { result ≡ is_yes (same_ty (tree base.now.names.now (base.now.words.now ++ work.now) s) (tree base.now.names.now (base.now.words.now ++ work.now) t)) }
+{
     let p = shape_at(base, work, s);
     let q = shape_at(base, work, t);
     match p {

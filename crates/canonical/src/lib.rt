@@ -23,14 +23,14 @@ pub mod sorted;
 fn least_var(
     base: &Base,
     work: &[u64],
-    env: Env,
+    env: &Env,
     top: usize,
     from: usize,
     best: usize,
     x: usize,
 ) -> usize
-    requires { ReadyVar base.now.names.now (base.now.words.now ++ work.now) env.rows.now env.order.now top }
-    ensures { Least base.now.names.now (free_in base.now.names.now (base.now.words.now ++ work.now) env.entry.rows.now env.entry.order.now)
+    requires { ReadyVar base.now.names.now (base.now.words.now ++ work.now) env.now.rows.now env.now.order.now top }
+    ensures { Least base.now.names.now (free_in base.now.names.now (base.now.words.now ++ work.now) env.now.rows.now env.now.order.now)
         (λ v. occurs v (var (tyvar_of base.now.names.now x))) from best result }
 {
     if x < from {
@@ -39,7 +39,7 @@ fn least_var(
     if best <= x {
         return best;
     }
-    if scope::is_free(base, work, env, top, x) {
+    if scope::is_free(base, work, *env, top, x) {
         return best;
     }
     x
@@ -50,14 +50,14 @@ fn least_var(
 fn least_in(
     base: &Base,
     work: &[u64],
-    env: Env,
+    env: &Env,
     top: usize,
     from: usize,
     best: usize,
     t: usize,
 ) -> usize
-    requires { ReadyType base.now.names.now (base.now.words.now ++ work.now) env.rows.now env.order.now top t }
-    ensures { Least base.now.names.now (free_in base.now.names.now (base.now.words.now ++ work.now) env.entry.rows.now env.entry.order.now)
+    requires { ReadyType base.now.names.now (base.now.words.now ++ work.now) env.now.rows.now env.now.order.now top t }
+    ensures { Least base.now.names.now (free_in base.now.names.now (base.now.words.now ++ work.now) env.now.rows.now env.now.order.now)
         (λ v. occurs v (tree base.now.names.now (base.now.words.now ++ work.now) t)) from best result }
 {
     let s = ast::shape_at(base, work, t);
@@ -76,14 +76,14 @@ fn least_in(
 fn least_list(
     base: &Base,
     work: &[u64],
-    env: Env,
+    env: &Env,
     top: usize,
     from: usize,
     best: usize,
     l: usize,
 ) -> usize
-    requires { ReadyType base.now.names.now (base.now.words.now ++ work.now) env.rows.now env.order.now top l }
-    ensures { Least base.now.names.now (free_in base.now.names.now (base.now.words.now ++ work.now) env.entry.rows.now env.entry.order.now)
+    requires { ReadyType base.now.names.now (base.now.words.now ++ work.now) env.now.rows.now env.now.order.now top l }
+    ensures { Least base.now.names.now (free_in base.now.names.now (base.now.words.now ++ work.now) env.now.rows.now env.now.order.now)
         (λ v. occurs_in v (list base.now.names.now (base.now.words.now ++ work.now) l)) from best result }
 {
     let c = ast::cell_at(base, work, l);
@@ -100,7 +100,7 @@ fn least_list(
 fn least_row(
     base: &Base,
     work: &[u64],
-    env: Env,
+    env: &Env,
     binders: &[u64],
     top: usize,
     from: usize,
@@ -108,10 +108,10 @@ fn least_row(
     n: usize,
     i: usize,
 ) -> usize
-    requires ready_var { ReadyVar base.now.names.now (base.now.words.now ++ work.now) env.rows.now env.order.now top }
+    requires ready_var { ReadyVar base.now.names.now (base.now.words.now ++ work.now) env.now.rows.now env.now.order.now top }
     requires binders { Binders (base.now.words.now ++ work.now) binders.now top n }
     requires i_lt_n { i < n }
-    ensures { Least base.now.names.now (free_in base.now.names.now (base.now.words.now ++ work.now) env.entry.rows.now env.entry.order.now)
+    ensures { Least base.now.names.now (free_in base.now.names.now (base.now.words.now ++ work.now) env.now.rows.now env.now.order.now)
         (λ v. row_has base.now.names.now (base.now.words.now ++ work.now) (row_at binders.now i) v) from best result }
 {
     let q = supers::rows::row_at(binders, i);
@@ -126,15 +126,15 @@ fn least_row(
 fn least_above(
     base: &Base,
     work: &[u64],
-    env: Env,
+    env: &Env,
     binders: &[u64],
     top: usize,
     from: usize,
     n: usize,
     t: usize,
 ) -> usize
-    requires { ReadyRows base.now.names.now (base.now.words.now ++ work.now) env.rows.now env.order.now binders.now top n t }
-    ensures { Least base.now.names.now (free_in base.now.names.now (base.now.words.now ++ work.now) env.entry.rows.now env.entry.order.now)
+    requires { ReadyRows base.now.names.now (base.now.words.now ++ work.now) env.now.rows.now env.now.order.now binders.now top n t }
+    ensures { Least base.now.names.now (free_in base.now.names.now (base.now.words.now ++ work.now) env.now.rows.now env.now.order.now)
         (λ v. occurs_qual v (rows_qual base.now.names.now (base.now.words.now ++ work.now) binders.now n t)) from first_nullary result }
 {
     let mut best = least_in(base, work, env, top, from, names::NULLARY, t);
@@ -164,7 +164,7 @@ pub fn letters(
 {
     let mut from = names::FRESH;
     for k in 0..26 {
-        let x = least_above(base, work, env, binders, top, from, n, t);
+        let x = least_above(base, work, &env, binders, top, from, n, t);
         if names::NULLARY <= x {
             return k;
         }

@@ -36,19 +36,19 @@ fn is_over(names: &[u64], p: Option<usize>, x: usize) -> bool
 fn last_var(
     base: &Base,
     work: &[u64],
-    env: Env,
+    env: &Env,
     top: usize,
     last: Option<usize>,
     best: Option<usize>,
     x: usize,
 ) -> Option<usize>
-    requires { ReadyType base.now.names.now (base.now.words.now ++ work.now) env.rows.now env.order.now top x }
-    ensures { Last base.now.names.now (free_in base.now.names.now (base.now.words.now ++ work.now) env.entry.rows.now env.entry.order.now)
+    requires { ReadyType base.now.names.now (base.now.words.now ++ work.now) env.now.rows.now env.now.order.now top x }
+    ensures { Last base.now.names.now (free_in base.now.names.now (base.now.words.now ++ work.now) env.now.rows.now env.now.order.now)
         (λ v. occurs v (var (tyvar_of base.now.names.now x))) top last best result }
 {
     if is_under(base.names, last, x) {
         if is_over(base.names, best, x) {
-            if scope::is_free(base, work, env, top, x) {
+            if scope::is_free(base, work, *env, top, x) {
                 return best;
             }
             return Some(x);
@@ -63,14 +63,14 @@ fn last_var(
 fn last_in(
     base: &Base,
     work: &[u64],
-    env: Env,
+    env: &Env,
     top: usize,
     last: Option<usize>,
     best: Option<usize>,
     t: usize,
 ) -> Option<usize>
-    requires { ReadyType base.now.names.now (base.now.words.now ++ work.now) env.rows.now env.order.now top t }
-    ensures { Last base.now.names.now (free_in base.now.names.now (base.now.words.now ++ work.now) env.entry.rows.now env.entry.order.now)
+    requires { ReadyType base.now.names.now (base.now.words.now ++ work.now) env.now.rows.now env.now.order.now top t }
+    ensures { Last base.now.names.now (free_in base.now.names.now (base.now.words.now ++ work.now) env.now.rows.now env.now.order.now)
         (λ v. occurs v (tree base.now.names.now (base.now.words.now ++ work.now) t)) top last best result }
 {
     let s = ast::shape_at(base, work, t);
@@ -89,14 +89,14 @@ fn last_in(
 fn last_list(
     base: &Base,
     work: &[u64],
-    env: Env,
+    env: &Env,
     top: usize,
     last: Option<usize>,
     best: Option<usize>,
     l: usize,
 ) -> Option<usize>
-    requires { ReadyType base.now.names.now (base.now.words.now ++ work.now) env.rows.now env.order.now top l }
-    ensures { Last base.now.names.now (free_in base.now.names.now (base.now.words.now ++ work.now) env.entry.rows.now env.entry.order.now)
+    requires { ReadyType base.now.names.now (base.now.words.now ++ work.now) env.now.rows.now env.now.order.now top l }
+    ensures { Last base.now.names.now (free_in base.now.names.now (base.now.words.now ++ work.now) env.now.rows.now env.now.order.now)
         (λ v. occurs_in v (list base.now.names.now (base.now.words.now ++ work.now) l)) top last best result }
 {
     let c = ast::cell_at(base, work, l);
@@ -113,15 +113,15 @@ fn last_list(
 fn last_before(
     base: &Base,
     work: &[u64],
-    env: Env,
+    env: &Env,
     top: usize,
     last: Option<usize>,
     ps: usize,
     t: usize,
 ) -> Option<usize>
-    requires ready_type { ReadyType base.now.names.now (base.now.words.now ++ work.now) env.rows.now env.order.now top t }
+    requires ready_type { ReadyType base.now.names.now (base.now.words.now ++ work.now) env.now.rows.now env.now.order.now top t }
     requires node { Node (base.now.words.now ++ work.now) top ps }
-    ensures { Last base.now.names.now (free_in base.now.names.now (base.now.words.now ++ work.now) env.entry.rows.now env.entry.order.now)
+    ensures { Last base.now.names.now (free_in base.now.names.now (base.now.words.now ++ work.now) env.now.rows.now env.now.order.now)
         (λ v. occurs_qual v (list_qual base.now.names.now (base.now.words.now ++ work.now) ps t)) top last None result }
 {
     let m = last_list(base, work, env, top, last, None, ps);
@@ -148,7 +148,7 @@ pub fn sorted_vars(
     let mut l = ast::NIL;
     let mut last = None;
     // No `for`: which variable comes next is known only from the one before.
-    while let Some(x) = last_before(base, work, env, room.top, last, ps, t) {
+    while let Some(x) = last_before(base, work, &env, room.top, last, ps, t) {
         l = ast::add(base, work, room, ast::CONS, x, l);
         last = Some(x);
     }

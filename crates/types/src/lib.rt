@@ -25,11 +25,11 @@ fn row_of(index: &[u64], v: usize) -> usize
 
 // How many nodes type i is as a tree; none where they are more than the limit.
 #[cycle(part_within_parts_within_size_within)]
-pub fn size_within(file: File, i: usize, limit: usize) -> Option<usize>
-    ensures { Measured (λ (ns : List ℕ). size (type_of file.entry.src.now ns file.entry.index.now i)) limit result }
+pub fn size_within(file: &File, i: usize, limit: usize) -> Option<usize>
+    ensures { Measured (λ (ns : List ℕ). size (type_of file.now.src.now ns file.now.index.now i)) limit result }
 {
     let left = limit.checked_sub(1)?;
-    let Some(node) = views::type_at(file, i) else {
+    let Some(node) = views::type_at(*file, i) else {
         return Some(1);
     };
     match node {
@@ -48,8 +48,8 @@ pub fn size_within(file: File, i: usize, limit: usize) -> Option<usize>
 
 // The same for the type of number j in type i.
 #[cycle(part_within_parts_within_size_within)]
-fn part_within(file: File, i: usize, j: usize, limit: usize) -> Option<usize>
-    ensures { Measured (λ (ns : List ℕ). size (part_of file.entry.src.now ns file.entry.index.now i j)) limit result }
+fn part_within(file: &File, i: usize, j: usize, limit: usize) -> Option<usize>
+    ensures { Measured (λ (ns : List ℕ). size (part_of file.now.src.now ns file.now.index.now i j)) limit result }
 {
     if j < i {
         return size_within(file, j, limit);
@@ -62,9 +62,9 @@ fn part_within(file: File, i: usize, j: usize, limit: usize) -> Option<usize>
 
 // The same for the k arguments from the place p on in type i, all together.
 #[cycle(part_within_parts_within_size_within)]
-fn parts_within(file: File, i: usize, p: usize, k: usize, limit: usize) -> Option<usize>
-    requires { p + 2 * k ≤ length file.src.now + 132 }
-    ensures { Measured (λ (ns : List ℕ). sizes (parts_of file.entry.src.now ns file.entry.index.now i p k)) limit result }
+fn parts_within(file: &File, i: usize, p: usize, k: usize, limit: usize) -> Option<usize>
+    requires { p + 2 * k ≤ length file.now.src.now + 132 }
+    ensures { Measured (λ (ns : List ℕ). sizes (parts_of file.now.src.now ns file.now.index.now i p k)) limit result }
 {
     let mut count = 0;
     for j in 0..k {
@@ -81,14 +81,14 @@ fn parts_within(file: File, i: usize, p: usize, k: usize, limit: usize) -> Optio
 
 // Takes type i into the table, as a tree, and answers its word.
 #[cycle(take_part_take_parts_take_type)]
-pub fn take_type(base: &Base, work: &mut [u64], file: File, room: &mut Room, i: usize) -> usize
+pub fn take_type(base: &Base, work: &mut [u64], file: &File, room: &mut Room, i: usize) -> usize
     requires base_len_bound { length base.now.words.now ≤ 4 * room.old.top }
-    requires fits { Fits (base.now.words.now ++ work.old) room.old.top (λ (ns : List ℕ). size (type_of file.src.now ns file.index.now i)) }
+    requires fits { Fits (base.now.words.now ++ work.old) room.old.top (λ (ns : List ℕ). size (type_of file.now.src.now ns file.now.index.now i)) }
     ensures takes { Takes tree size 4 (base.now.words.now ++ work.old) (base.now.words.now ++ work.new) room.old.top
-        (λ (ns : List ℕ). type_of file.entry.src.now ns file.entry.index.now i) (taken result room.new.top) }
+        (λ (ns : List ℕ). type_of file.now.src.now ns file.now.index.now i) (taken result room.new.top) }
     ensures left { room.new.left ≡ room.old.left }
 {
-    let Some(node) = views::type_at(file, i) else {
+    let Some(node) = views::type_at(*file, i) else {
         return 0;
     };
     match node {
@@ -114,15 +114,15 @@ pub fn take_type(base: &Base, work: &mut [u64], file: File, room: &mut Room, i: 
 fn take_part(
     base: &Base,
     work: &mut [u64],
-    file: File,
+    file: &File,
     room: &mut Room,
     i: usize,
     j: usize,
 ) -> usize
     requires base_len_bound { length base.now.words.now ≤ 4 * room.old.top }
-    requires fits { Fits (base.now.words.now ++ work.old) room.old.top (λ (ns : List ℕ). size (part_of file.src.now ns file.index.now i j)) }
+    requires fits { Fits (base.now.words.now ++ work.old) room.old.top (λ (ns : List ℕ). size (part_of file.now.src.now ns file.now.index.now i j)) }
     ensures takes { Takes tree size 4 (base.now.words.now ++ work.old) (base.now.words.now ++ work.new) room.old.top
-        (λ (ns : List ℕ). part_of file.entry.src.now ns file.entry.index.now i j) (taken result room.new.top) }
+        (λ (ns : List ℕ). part_of file.now.src.now ns file.now.index.now i j) (taken result room.new.top) }
     ensures left { room.new.left ≡ room.old.left }
 {
     if j < i {
@@ -137,17 +137,17 @@ fn take_part(
 fn take_parts(
     base: &Base,
     work: &mut [u64],
-    file: File,
+    file: &File,
     room: &mut Room,
     i: usize,
     p: usize,
     k: usize,
 ) -> usize
     requires base_len_bound { length base.now.words.now ≤ 4 * room.old.top }
-    requires k_in_bounds { p + 2 * k ≤ length file.src.now + 132 }
-    requires fits { Fits (base.now.words.now ++ work.old) room.old.top (λ (ns : List ℕ). sizes (parts_of file.src.now ns file.index.now i p k)) }
+    requires k_in_bounds { p + 2 * k ≤ length file.now.src.now + 132 }
+    requires fits { Fits (base.now.words.now ++ work.old) room.old.top (λ (ns : List ℕ). sizes (parts_of file.now.src.now ns file.now.index.now i p k)) }
     ensures takes { Takes list sizes 0 (base.now.words.now ++ work.old) (base.now.words.now ++ work.new) room.old.top
-        (λ (ns : List ℕ). parts_of file.entry.src.now ns file.entry.index.now i p k) (taken result room.new.top) }
+        (λ (ns : List ℕ). parts_of file.now.src.now ns file.now.index.now i p k) (taken result room.new.top) }
     ensures left { room.new.left ≡ room.old.left }
 {
     if k == 0 {
