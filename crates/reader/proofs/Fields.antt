@@ -81,14 +81,22 @@ part_byte : (bytes part : List ℕ) (at i j : ℕ) → part ≡ slice_range byte
 part_byte bytes part at i j e h q = let k : i < length bytes - at = omega arith in
     rw e (get_or-take (length bytes - at) (drop at bytes) i 0 k ∙ get_or-drop at bytes i 0) ∙ ap (λ (n : ℕ). get_or bytes n 0) q
 
--- Two and eight bytes as numbers.
+-- A byte as a number, and two that are read one by one.
 pub one_byte : (bytes : List ℕ) (at v : ℕ) → v ≡ get_or bytes at 0 → v ≡ little (text bytes at 1)
 unfolding text little
 one_byte bytes at v e = omega arith
 
-pub two_bytes : (bytes : List ℕ) (at v : ℕ) → v ≡ from_le_bytes w16 (get_or bytes at 0 ∷ get_or bytes (at + 1) 0 ∷ []) → v ≡ little (text bytes at 2)
+pub two_single_bytes : (bytes : List ℕ) (at v : ℕ) → v ≡ from_le_bytes w16 (get_or bytes at 0 ∷ get_or bytes (at + 1) 0 ∷ []) → v ≡ little (text bytes at 2)
 unfolding text little
-two_bytes bytes at v e = omega (arith, e)
+two_single_bytes bytes at v e = omega (arith, e)
+
+-- Two and eight bytes as numbers, read from what is lent.
+pub two_bytes : (bytes part : List ℕ) (at v : ℕ) → part ≡ slice_range bytes at (length bytes) → at + 2 ≤ length bytes → v ≡ from_le_bytes w16 part → v ≡ little (text bytes at 2)
+unfolding text little
+two_bytes bytes part at v p h e =
+    let a = part_byte bytes part at 0 at p (omega arith) (omega arith) in
+    let b = part_byte bytes part at 1 (at + 1) p (omega arith) (omega arith) in
+    omega (arith, e, a, b)
 
 pub eight_bytes : (bytes part : List ℕ) (at v : ℕ) → part ≡ slice_range bytes at (length bytes) → at + 8 ≤ length bytes → v ≡ from_le_bytes w64 part → v ≡ little (text bytes at 8)
 unfolding text little
